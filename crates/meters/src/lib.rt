@@ -1,0 +1,150 @@
+// The three meters of one call and who pays now. All by value: a change gives back the meters that follow.
+// A meter counts seconds. Nothing here knows of roles, messages or prices.
+ghost use mathlib.Core.Path.{_≡_};
+ghost use Rattle.meters.specs.Meters.{newOf, withinOf, paidByOf, addsOf, giveOf, entireOf, receivedOf, changeOf};
+
+// 01: no sum of meters, and no Duration, may pass this many seconds.
+const LIMIT: u64 = 31536000;
+
+// Whose meter runs.
+pub enum Payer {
+    Nobody,
+    Caller,
+    Called,
+    Far,
+}
+
+pub struct Meters {
+    pub caller: u32,
+    pub called: u32,
+    pub far: u32,
+    pub payer: Payer,
+}
+
+// What a row may do to the meters.
+pub enum Change {
+    Keep,
+    CallerPays,
+    CalledPays,
+    FarPays,
+    NobodyPays,
+    EntireToCalled,
+    EntireToFar,
+    TimePasses,
+    DurationReceived,
+}
+
+// What a change gives: the meters that follow, or why there are none.
+pub enum Metered {
+    Done(Meters),
+    NoPayer,
+    TooMuch,
+}
+
+impl Meters {
+    // A call that has not been answered.
+    pub fn new() -> Self
+        ensures { λ out. ⌜ out ≡ newOf ⌝ }
+    {
+        Meters {
+            caller: 0,
+            called: 0,
+            far: 0,
+            payer: Payer::Nobody,
+        }
+    }
+
+    // The sum of the meters is within the limit.
+    pub fn within(self) -> bool
+        ensures { λ out. ⌜ out ≡ withinOf self ⌝ }
+    {
+        (self.caller as u64) + (self.called as u64) + (self.far as u64) <= LIMIT
+    }
+
+    // Charging starts, goes over to another payer, or stops: the seconds stay where they are.
+    pub fn paid_by(self, payer: Payer) -> Self
+        ensures { λ out. ⌜ out ≡ paidByOf self payer ⌝ }
+    {
+        Meters {
+            caller: self.caller,
+            called: self.called,
+            far: self.far,
+            payer: payer,
+        }
+    }
+
+    // Seconds onto each meter, unless the sum would then pass the limit. The one sum in this crate.
+    fn adds(self, caller: u32, called: u32, far: u32) -> Metered
+        ensures { λ out. ⌜ out ≡ addsOf self caller called far ⌝ }
+    {
+        let payer = self.payer;
+        let held = (self.caller as u64) + (self.called as u64) + (self.far as u64);
+        let more = (caller as u64) + (called as u64) + (far as u64);
+        if held + more <= LIMIT {
+            Metered::Done(Meters {
+                caller: self.caller + caller,
+                called: self.called + called,
+                far: self.far + far,
+                payer: payer,
+            })
+        } else {
+            Metered::TooMuch
+        }
+    }
+
+    // The payer's meter takes all of the seconds.
+    pub fn give(self, seconds: u32) -> Metered
+        ensures { λ out. ⌜ out ≡ giveOf self seconds ⌝ }
+    {
+        let payer = self.payer;
+        match payer {
+            Payer::Nobody => Metered::NoPayer,
+            Payer::Caller => self.adds(seconds, 0, 0),
+            Payer::Called => self.adds(0, seconds, 0),
+            Payer::Far => self.adds(0, 0, seconds),
+        }
+    }
+
+    // Case C: the caller's meter is emptied, and its seconds go to the payer of the entire call.
+    pub fn entire(self, payer: Payer) -> Metered
+        ensures { λ out. ⌜ out ≡ entireOf self payer ⌝ }
+    {
+        let emptied = Meters {
+            caller: 0,
+            called: self.called,
+            far: self.far,
+            payer: payer,
+        };
+        emptied.give(self.caller)
+    }
+
+    // Case C in transfer mode, at the destination: the Duration received stands for all seconds so far.
+    pub fn received(self, duration: u32) -> Metered
+        ensures { λ out. ⌜ out ≡ receivedOf self duration ⌝ }
+    {
+        let emptied = Meters {
+            caller: self.caller,
+            called: 0,
+            far: 0,
+            payer: Payer::Called,
+        };
+        emptied.give(duration)
+    }
+
+    // One change, with the seconds that passed or were received.
+    pub fn change(self, change: Change, seconds: u32) -> Metered
+        ensures { λ out. ⌜ out ≡ changeOf change self seconds ⌝ }
+    {
+        match change {
+            Change::Keep => Metered::Done(self),
+            Change::CallerPays => Metered::Done(self.paid_by(Payer::Caller)),
+            Change::CalledPays => Metered::Done(self.paid_by(Payer::Called)),
+            Change::FarPays => Metered::Done(self.paid_by(Payer::Far)),
+            Change::NobodyPays => Metered::Done(self.paid_by(Payer::Nobody)),
+            Change::EntireToCalled => self.entire(Payer::Called),
+            Change::EntireToFar => self.entire(Payer::Far),
+            Change::TimePasses => self.give(seconds),
+            Change::DurationReceived => self.received(seconds),
+        }
+    }
+}
