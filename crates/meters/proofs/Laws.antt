@@ -72,8 +72,14 @@ module _ (m n : Meters) (a b f : ℕ) (h : addsOf m a b f ≡ Done n) where
 
   added : (p : Payer) (s : ℕ) → a ≡ share Caller p s → b ≡ share Called p s → f ≡ share Far p s → a + b + f ≡ s → Gave m n p s
   added p s ea eb ef es =
-      record { caller = omega (arith, caller-adds, ea); called = omega (arith, called-adds, eb); far = omega (arith, far-adds, ef); payer = payer-stays;
-      sum = omega (arith, sum-adds, es); bound = omega (arith, fitted, sum-adds) }
+      record {
+        caller = omega (arith, caller-adds, ea);
+        called = omega (arith, called-adds, eb);
+        far = omega (arith, far-adds, ef);
+        payer = payer-stays;
+        sum = omega (arith, sum-adds, es);
+        bound = omega (arith, fitted, sum-adds);
+      }
 
 gave-to : (p : Payer) (m n : Meters) (s : ℕ) → givesTo p m s ≡ Done n → Gave m n p s
 gave-to Nobody m n s h = let z : _≡_ {A = ℕ} 0 1 = cc in absurd (omega arith)

@@ -1,0 +1,11 @@
+use borrow.Author.Needs.{needs}
+use Rattle.rows.proofs.Call.takes.Statement.{statement}
+use Rattle.rows.proofs.Call.takes.Tie as tie
+
+pub takes-spec : {M : Type 1} → statement M
+takes-spec =
+    tie.close
+    (tie.spec
+    (λ c. λ κs. search needs) (λ c. λ κs. search needs) (λ c. λ κs. search needs) (λ c. λ κs. search needs) (λ c. λ κs. search needs)
+    (λ c. λ κs. search needs)
+    (λ c. simp (c .perform .ensures, c .before .plan-of .ensures, c .before .before .terms-of .ensures, c .before .before .before .row-for .ensures, c .before .before .before .before .cue-of .ensures, c .before .before .before .before .before .read .ensures)))

@@ -1,0 +1,17 @@
+use borrow.Author.Needs.{needs}
+use Rattle.rows.proofs.perform.action_of.Statement.{statement}
+use Rattle.rows.proofs.perform.action_of.Tie as tie
+
+pub action-of-spec : {M : Type 1} → statement M
+action-of-spec =
+    tie.close
+    (tie.spec
+    (λ c. search needs) (λ c. search needs) (λ c. search needs) (λ c. search needs) (λ c. search needs) (λ c. search needs)
+    (λ c. search needs) (λ c. search needs) (λ c. search needs) (λ c. search needs) (λ c. λ κs. search needs) (λ c. search needs)
+    (λ c. λ κs. search needs) (λ c. search needs) (λ c. λ κs. search needs) (λ c. search needs) (λ c. λ κs. search needs)
+    (λ c. simp (c .enum-told .given .1)) (λ c. simp (c .enum-told2 .given .1)) (λ c. simp (c .enum-told3 .given .1))
+    (λ c. simp (c .enum-told4 .given .1)) (λ c. simp (c .enum-told5 .given .1)) (λ c. simp (c .enum-told6 .given .1))
+    (λ c. simp (c .enum-told7 .given .1)) (λ c. simp (c .enum-told8 .given .1)) (λ c. simp (c .enum-told9 .given .1))
+    (λ c. simp (c .sent .ensures, c .before .enum-told10 .given .1)) (λ c. simp (c .sent2 .ensures, c .before .enum-told11 .given .1))
+    (λ c. simp (c .sent3 .ensures, c .before .enum-told12 .given .1))
+    (λ c. simp (c .sent4 .ensures, c .before .enum-told13 .given .1)))

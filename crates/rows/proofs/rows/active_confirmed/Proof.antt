@@ -1,0 +1,10 @@
+use borrow.Author.Needs.{needs}
+use Rattle.rows.proofs.rows.active_confirmed.Statement.{statement}
+use Rattle.rows.proofs.rows.active_confirmed.Tie as tie
+
+pub active-confirmed-spec : {M : Type 1} → statement M
+active-confirmed-spec =
+    tie.close
+    (tie.spec
+    (λ c. λ κs. search needs) (λ c. λ κs. search needs) (λ c. simp (c .turns .ensures, c .before .if1 .taken))
+    (λ c. simp (c .sends .ensures, c .before .if1 .left)))

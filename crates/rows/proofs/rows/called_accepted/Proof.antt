@@ -1,0 +1,14 @@
+use borrow.Author.Needs.{needs}
+use Rattle.rows.proofs.rows.called_accepted.Statement.{statement}
+use Rattle.rows.proofs.rows.called_accepted.Tie as tie
+
+pub called-accepted-spec : {M : Type 1} → statement M
+called-accepted-spec =
+    tie.close
+    (tie.spec
+    (λ c. λ κs. search needs) (λ c. λ κs. search needs) (λ c. λ κs. search needs) (λ c. λ κs. search needs) (λ c. λ κs. search needs)
+    (λ c. simp (c .acts .ensures, c .before .if3 .taken, c .before .before .if2 .taken, c .before .before .before .if1 .taken))
+    (λ c. simp (c .acts2 .ensures, c .before .if4 .taken, c .before .before .if3 .left, c .before .before .before .if2 .taken, c .before .before .before .before .if1 .taken))
+    (λ c. simp (c .refuses .ensures, c .before .if4 .left, c .before .before .if3 .left, c .before .before .before .if2 .taken, c .before .before .before .before .if1 .taken))
+    (λ c. simp (c .refuses2 .ensures, c .before .if2 .left, c .before .before .if1 .taken))
+    (λ c. simp (c .acts3 .ensures, c .before .if1 .left)))

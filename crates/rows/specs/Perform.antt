@@ -1,0 +1,182 @@
+-- PERFORM: a plan carried out, once.
+-- Assumes nothing.
+use Prim.Native.Nat.{ℕ}
+use mathlib.Core.Bool.{Bool, true, false}
+use lib.Dec.{eqb, leb}
+use Rattle.rows.specs.Numbers.{applied, tooMuch, nobodyPays, iam, anm, rel, fac, callingPart, calledPart, durationPart}
+use Rattle.rows.specs.Read.{bit, absent, flagsOf}
+use Rattle.meters.specs.Meters.{changeOf}
+use Rattle.meters.specs.declared.Metered.{Metered}
+use Rattle.meters.specs.declared.Metered.the-variants.{Done, NoPayer, TooMuch}
+use Rattle.meters.specs.declared.Meters.{Meters}
+use Rattle.meters.specs.declared.Payer.{Payer}
+use Rattle.meters.specs.declared.Payer.the-variants.{Nobody, Caller, Called, Far}
+use Rattle.rows.specs.declared.Act.{Act}
+use Rattle.rows.specs.declared.Action.{Action}
+use Rattle.rows.specs.declared.Call.{Call}
+use Rattle.rows.specs.declared.Component.{Component}
+use Rattle.rows.specs.declared.Message.{Message}
+use Rattle.rows.specs.declared.Next.{Next}
+use Rattle.rows.specs.declared.Next.the-variants.{Stay, ToNull, ToSetup, ToWaitSetup, ToWaitAnswer, ToWaitAnswerTransfer, ToWaitSetupConf, ToWaitSetupConfTransfer, ToSetupWaitCalled, ToAnswered, ToWaitActive, ToWaitActiveConf, ToWaitActiveConfTransfer, ToWaitCalledRest, ToWaitCalledEntire, ToActive, ToCleared}
+use Rattle.rows.specs.declared.Number.{Number}
+use Rattle.rows.specs.declared.Outcome.{Outcome}
+use Rattle.rows.specs.declared.Phase.{Phase}
+use Rattle.rows.specs.declared.Phase.the-variants.{Null, Setup, Answered, Cleared}
+use Rattle.rows.specs.declared.Plan.{Plan}
+use Rattle.rows.specs.declared.Reading.{Reading}
+use Rattle.rows.specs.declared.Register.{Register}
+use Rattle.rows.specs.declared.Register.the-variants.{AsHeld, FromOpening, CalledNumber, CallingNumber}
+use Rattle.rows.specs.declared.RevState.{RevState}
+use Rattle.rows.specs.declared.RevState.the-variants.{Idle, WaitSetup, WaitActive, WaitAnswer, Active, WaitSetupConf, WaitActiveConf, WaitCalled}
+use Rattle.rows.specs.declared.Role.{Role}
+use Rattle.rows.specs.declared.Role.the-variants.{Originating, Destination}
+use Rattle.rows.specs.declared.Side.{Side}
+use Rattle.rows.specs.declared.Stand.{Stand}
+
+-- ---- The message sent
+
+abbrev pub ifThere : Bool → Number → Number
+ifThere true n = n
+ifThere false n = absent
+
+abbrev pub secondsIf : Bool → ℕ → ℕ
+secondsIf true s = s
+secondsIf false s = 0
+
+-- only the own number is ever sent; the Duration is the caller's meter
+abbrev pub noteOf : ℕ → Component → ℕ → Number → ℕ → Message
+noteOf u x p own caller =
+    record {
+      kind = 0;
+      cause = u;
+      component = x;
+      parts = p;
+      calling = ifThere (bit callingPart p) own;
+      called = ifThere (bit calledPart p) own;
+      duration = secondsIf (bit durationPart p) caller;
+    }
+
+abbrev pub sentOf : ℕ → Message → Action
+sentOf k m =
+    Action.Send (record { kind = k; cause = m .cause; component = m .component; parts = m .parts; calling = m .calling; called = m .called; duration = m .duration })
+
+-- ---- The actions
+
+-- "A change from a payer charged at this exchange gives STOP": the caller or the called user; far is charged at the other one
+abbrev pub stoppingOf : Payer → Payer → Action
+stoppingOf Nobody q = Action.Nothing
+stoppingOf Caller Nobody = Action.Stop
+stoppingOf Caller Caller = Action.Nothing
+stoppingOf Caller Called = Action.Stop
+stoppingOf Caller Far = Action.Stop
+stoppingOf Called Nobody = Action.Stop
+stoppingOf Called Caller = Action.Stop
+stoppingOf Called Called = Action.Nothing
+stoppingOf Called Far = Action.Stop
+stoppingOf Far q = Action.Nothing
+
+abbrev pub actionOf : Act → Message → ℕ → Action → Action
+actionOf Act.Nothing m e stop = Action.Nothing
+actionOf Act.NotifyAccepted m e stop = Action.NotifyAccepted
+actionOf Act.AccessSetup m e stop = Action.AccessSetup
+actionOf Act.AccessAsk m e stop = Action.AccessAsk
+actionOf Act.AccessError m e stop = Action.AccessError e
+actionOf Act.AccessRel m e stop = Action.AccessRel (m .cause)
+actionOf Act.ChargeCalling m e stop = Action.ChargeCalling
+actionOf Act.ChargeCalled m e stop = Action.ChargeCalled
+actionOf Act.Stop m e stop = stop
+actionOf Act.SendIam m e stop = sentOf iam m
+actionOf Act.SendAnm m e stop = sentOf anm m
+actionOf Act.SendRel m e stop = sentOf rel m
+actionOf Act.SendFac m e stop = sentOf fac m
+
+-- ---- Where the call stands next: phase, REV state; pending, transfer agreed and the rest of the call asked for
+
+abbrev pub at : Phase → RevState → Bool → Bool → Stand
+at p s a r = record { phase = p; rev = s; agreed = a; rest = r }
+
+abbrev pub standOf : Next → Stand → Stand
+standOf Stay now = now
+standOf ToNull now = at Null Idle false false
+standOf ToSetup now = at Setup Idle false false
+standOf ToWaitSetup now = at Setup WaitSetup false false
+standOf ToWaitAnswer now = at Setup WaitAnswer false false
+standOf ToWaitAnswerTransfer now = at Setup WaitAnswer true false
+standOf ToWaitSetupConf now = at Setup WaitSetupConf false false
+standOf ToWaitSetupConfTransfer now = at Setup WaitSetupConf true false
+standOf ToSetupWaitCalled now = at Setup WaitCalled false false
+standOf ToAnswered now = at Answered Idle false false
+standOf ToWaitActive now = at Answered WaitActive false false
+standOf ToWaitActiveConf now = at Answered WaitActiveConf false false
+standOf ToWaitActiveConfTransfer now = at Answered WaitActiveConf true false
+standOf ToWaitCalledRest now = at Answered WaitCalled false true
+standOf ToWaitCalledEntire now = at Answered WaitCalled false false
+standOf ToActive now = at Answered Active false false
+standOf ToCleared now = at Cleared Idle false false
+
+-- ---- What is registered
+
+abbrev pub roleBy : Bool → Role
+roleBy true = Destination
+roleBy false = Originating
+
+abbrev pub orHeld : Bool → Number → Number → Number
+orHeld true n held = n
+orHeld false n held = held
+
+abbrev pub openedOf : Reading → Side
+openedOf r = record { role = roleBy (eqb (r .item) 1); flags = flagsOf (r .flags); own = r .own; calling = absent; called = absent }
+
+abbrev pub withNumbers : Side → Number → Number → Side
+withNumbers s calling called = record { role = s .role; flags = s .flags; own = s .own; calling = calling; called = called }
+
+-- a number that the event carries; where it carries none, what was held stays
+abbrev pub sideOf : Register → Side → Reading → Side
+sideOf AsHeld s r = s
+sideOf FromOpening s r = openedOf r
+sideOf CalledNumber s r = withNumbers s (s .calling) (orHeld (leb 1 (r .called .count)) (r .called) (s .called))
+sideOf CallingNumber s r = withNumbers s (orHeld (leb 1 (r .calling .count)) (r .calling) (s .calling)) (s .called)
+
+-- ---- The answer
+
+-- a refusal: its number, no actions and the call as it stood
+abbrev pub refusedOf : ℕ → Call → Outcome
+refusedOf n c = record { number = n; call = c; first = Action.Nothing; second = Action.Nothing; third = Action.Nothing; fourth = Action.Nothing }
+
+abbrev pub givenOf : Plan → Call → Message → Action → Outcome
+givenOf p c m stop =
+    record {
+      number = applied;
+      call = c;
+      first = actionOf (p .first) m (p .error) stop;
+      second = actionOf (p .second) m (p .error) stop;
+      third = actionOf (p .third) m (p .error) stop;
+      fourth = actionOf (p .fourth) m (p .error) stop;
+    }
+
+-- the row applied, with the meters that follow; the Duration sent is the caller's meter as it stood before
+abbrev pub followsOf : Call → Plan → Reading → Meters → Outcome
+followsOf c p r after =
+    givenOf p
+    (record { side = sideOf (p .register) (c .side) r; stand = standOf (p .next) (c .stand); meters = after })
+    (noteOf (p .cause) (p .component) (p .parts) (c .side .own) (c .meters .caller))
+    (stoppingOf (c .meters .payer) (after .payer))
+
+-- 10 and 2 are the meters' own refusals
+abbrev pub settledOf : Metered → Call → Plan → Reading → Outcome
+settledOf (Done after) c p r = followsOf c p r after
+settledOf NoPayer c p r = refusedOf nobodyPays c
+settledOf TooMuch c p r = refusedOf tooMuch c
+
+abbrev pub doesOf : Call → Plan → Reading → Outcome
+doesOf c p r = settledOf (changeOf (p .change) (c .meters) (r .seconds)) c p r
+
+abbrev pub appliesOf : ℕ → Bool
+appliesOf n = eqb n applied
+
+abbrev pub performIf : Bool → Call → Plan → Reading → Outcome
+performIf true c p r = doesOf c p r
+performIf false c p r = refusedOf (p .number) c
+
+abbrev pub performOf : Call → Plan → Reading → Outcome
+performOf c p r = performIf (appliesOf (p .number)) c p r

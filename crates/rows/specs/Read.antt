@@ -1,0 +1,152 @@
+-- What an event says to the tables and to the rows.
+-- Assumes nothing.
+use Prim.Native.Nat.{ℕ, _/_, _%_}
+use mathlib.Core.Bool.{Bool, true, false, _&&_, _||_, not}
+use lib.Dec.{eqb, leb}
+use Rattle.rows.specs.Numbers.{userNotSubscribed, rejectedByNetwork, rejectedByUser, notAvailable, interactionNotAllowed, basicServiceNotProvided, resourceUnavailable, userIgnored, alreadyRunning, facilityRejected, normalClearing, iam, anm, con, rel, callingReqSetup, callingReqActive, calledRequest, callingPart, calledPart, partialPart, durationPart}
+use Rattle.rows.specs.declared.Asked.{Asked}
+use Rattle.rows.specs.declared.Component.{Component}
+use Rattle.rows.specs.declared.Component.the-variants.{Absent, Invoke, Result, Error, Reject, Unknown}
+use Rattle.rows.specs.declared.Cue.{Cue}
+use Rattle.rows.specs.declared.Event.{Event}
+use Rattle.rows.specs.declared.Event.the-variants.{Opening, Ask, Received, FromAccess, Expiry, Time}
+use Rattle.rows.specs.declared.Flags.{Flags}
+use Rattle.rows.specs.declared.Heard.{Heard}
+use Rattle.rows.specs.declared.Kind.{Kind}
+use Rattle.rows.specs.declared.Kind.the-variants.{Opens, Asks, Iam, Answer, Rel, Fac, Tells, Expires, Passes}
+use Rattle.rows.specs.declared.Message.{Message}
+use Rattle.rows.specs.declared.Number.{Number}
+use Rattle.rows.specs.declared.Reading.{Reading}
+use Rattle.rows.specs.declared.Stand.{Stand}
+use Rattle.rows.specs.declared.Terms.{Terms}
+use Rattle.rows.specs.declared.Told.{Told}
+
+-- part or flag k, a power of two, is among those of n
+abbrev pub bit : ℕ → ℕ → Bool
+bit k n = eqb ((n / k) % 2) 1
+
+abbrev pub lowest : ℕ → Bool
+lowest n = eqb (n % 2) 1
+
+-- 01, kind 1: 1 transfer, 2 subscription option, 4 subscribed, 8 interaction allowed, 16 case D
+abbrev pub flagsOf : ℕ → Flags
+flagsOf n = record { transfer = lowest n; option = bit 2 n; subscribed = bit 4 n; interaction = bit 8 n; unconditional = bit 16 n }
+
+-- 01, kind 2: 0 basic call, 1 A, 2 B, 3 C
+abbrev pub askedOf : ℕ → Asked
+askedOf n = record { basic = eqb n 0; casea = eqb n 1; caseb = eqb n 2; casec = eqb n 3; reversal = leb 1 n && leb n 3 }
+
+-- 01, kind 4: 1 accept, 2 error, 3 reject, 4 clear, 5 answer without REV
+abbrev pub toldOf : ℕ → Told
+toldOf n = record { accepts = eqb n 1; refuses = eqb n 2; rejects = eqb n 3; clears = eqb n 4; answers = eqb n 5 }
+
+-- 01, kind 3: the component, with the operation n of an invoke or a result
+abbrev pub heardBy : Bool → Bool → Bool → Bool → Bool → ℕ → Heard
+heardBy alone invoke result failure rejection n =
+    record {
+      alone = alone;
+      invoke = invoke;
+      invokesetup = invoke && eqb n callingReqSetup;
+      invokeactive = invoke && eqb n callingReqActive;
+      invokecalled = invoke && eqb n calledRequest;
+      resultsetup = result && eqb n callingReqSetup;
+      resultactive = result && eqb n callingReqActive;
+      resultcalled = result && eqb n calledRequest;
+      failure = failure;
+      rejection = rejection;
+    }
+
+abbrev pub heardOf : Component → Heard
+heardOf (Absent n) = heardBy true false false false false n
+heardOf (Invoke n) = heardBy false true false false false n
+heardOf (Result n) = heardBy false false true false false n
+heardOf (Error n) = heardBy false false false true false n
+heardOf (Reject n) = heardBy false false false false true n
+heardOf (Unknown k n) = heardBy false false false false false n
+
+-- 01, kind 3: IAM; ANM or CON; REL; FAC
+abbrev pub kindBy : Bool → Bool → Bool → Kind
+kindBy true a r = Iam
+kindBy false true r = Answer
+kindBy false false true = Rel
+kindBy false false false = Fac
+
+abbrev pub kindOf : ℕ → Kind
+kindOf n = kindBy (eqb n iam) (eqb n anm || eqb n con) (eqb n rel)
+
+abbrev pub errorOf : Component → ℕ
+errorOf (Absent n) = 0
+errorOf (Invoke n) = 0
+errorOf (Result n) = 0
+errorOf (Error n) = n
+errorOf (Reject n) = 0
+errorOf (Unknown k n) = 0
+
+abbrev pub absent : Number
+absent = record { count = 0; value = 0 }
+
+abbrev pub plainOf : Kind → ℕ → ℕ → ℕ → ℕ → Reading
+plainOf k i e u s =
+    record { kind = k; item = i; flags = 0; component = Absent 0; parts = 0; error = e; cause = u; seconds = s; own = absent; calling = absent; called = absent }
+
+abbrev pub readMessage : Message → Reading
+readMessage m =
+    record {
+      kind = kindOf (m .kind);
+      item = 0;
+      flags = 0;
+      component = m .component;
+      parts = m .parts;
+      error = errorOf (m .component);
+      cause = m .cause;
+      seconds = m .duration;
+      own = absent;
+      calling = m .calling;
+      called = m .called;
+    }
+
+-- the access gives no cause: "16 if none"
+abbrev pub readOf : Event → Reading
+readOf (Opening r f n) =
+    record { kind = Opens; item = r; flags = f; component = Absent 0; parts = 0; error = 0; cause = 0; seconds = 0; own = n; calling = absent; called = absent }
+readOf (Ask q n) =
+    record { kind = Asks; item = q; flags = 0; component = Absent 0; parts = 0; error = 0; cause = 0; seconds = 0; own = absent; calling = absent; called = n }
+readOf (Received m) = readMessage m
+readOf (FromAccess a n) = plainOf Tells a n normalClearing 0
+readOf Expiry = plainOf Expires 0 0 0 0
+readOf (Time s) = plainOf Passes 0 0 0 s
+
+abbrev pub cueOf : Reading → Cue
+cueOf r = record { kind = r .kind; asked = askedOf (r .item); heard = heardOf (r .component); told = toldOf (r .item) }
+
+-- "A valid error is one listed in 001's module" (3.4.2)
+abbrev pub listedOf : ℕ → Bool
+listedOf n =
+    eqb n userNotSubscribed || (eqb n rejectedByNetwork || (eqb n rejectedByUser || (eqb n notAvailable || (eqb n interactionNotAllowed
+    || (eqb n basicServiceNotProvided || (eqb n resourceUnavailable || (eqb n userIgnored || eqb n alreadyRunning)))))))
+
+abbrev pub orElse : Bool → ℕ → ℕ → ℕ
+orElse true n other = n
+orElse false n other = other
+
+-- what the rows look at. error and reason: 001's "if this return error value is correct for REV, the same return error value
+-- and cause value are sent .., if .. not correct for REV, .. "Not Available" and .. "29: facility rejected""
+abbrev pub termsOf : Flags → Stand → Reading → Terms
+termsOf f at r =
+    record {
+      interaction = f .interaction;
+      transfer = f .transfer;
+      barred = f .option && not (f .subscribed);
+      unconditional = f .unconditional;
+      taken = f .transfer && lowest (r .parts);
+      enough = lowest (r .parts) || bit calledPart (r .parts);
+      accepted = f .transfer && (bit 2 (r .parts) && bit 4 (r .parts));
+      partial = bit partialPart (r .parts);
+      calling = bit callingPart (r .parts);
+      duration = bit durationPart (r .parts);
+      agreed = at .agreed;
+      rest = at .rest;
+      error = orElse (listedOf (r .error)) (r .error) notAvailable;
+      reason = orElse (listedOf (r .error)) (r .cause) facilityRejected;
+      cause = r .cause;
+    }

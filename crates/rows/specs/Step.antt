@@ -1,0 +1,48 @@
+-- One step of a call: the answer to any event in any state.
+-- Assumes nothing.
+use Prim.Native.Nat.{ℕ}
+use mathlib.Core.Bool.{Bool, true, false}
+use Rattle.rows.specs.Find.{rowForOf}
+use Rattle.rows.specs.Numbers.{badField, notACall}
+use Rattle.rows.specs.Perform.{at, refusedOf, performOf}
+use Rattle.rows.specs.Read.{absent, flagsOf, readOf, cueOf, termsOf}
+use Rattle.rows.specs.Rows.{planOf}
+use Rattle.rows.specs.Valid.{validOf, eventOk}
+use Rattle.meters.specs.Meters.{newOf}
+use Rattle.rows.specs.declared.Call.{Call}
+use Rattle.rows.specs.declared.Event.{Event}
+use Rattle.rows.specs.declared.Outcome.{Outcome}
+use Rattle.rows.specs.declared.Phase.the-variants.{Unopened}
+use Rattle.rows.specs.declared.Reading.{Reading}
+use Rattle.rows.specs.declared.RevState.the-variants.{Idle}
+use Rattle.rows.specs.declared.Role.the-variants.{Originating}
+
+-- a call before its opening
+abbrev pub unopenedCall : Call
+unopenedCall =
+    record {
+      side = record { role = Originating; flags = flagsOf 0; own = absent; calling = absent; called = absent };
+      stand = at Unopened Idle false false;
+      meters = newOf;
+    }
+
+-- find the row by role, phase, REV state and event; plan it by flags, parts and what is pending; perform it
+abbrev pub takesReading : Call → Reading → Outcome
+takesReading c r =
+    performOf c (planOf (rowForOf (c .side .role) (c .stand .phase) (c .stand .rev) (cueOf r)) (termsOf (c .side .flags) (c .stand) r)) r
+
+abbrev pub takesOf : Call → Event → Outcome
+takesOf c e = takesReading c (readOf e)
+
+-- a field out of its range: 3, before any row is looked for
+abbrev pub ifInRange : Bool → Call → Event → Outcome
+ifInRange true c e = takesOf c e
+ifInRange false c e = refusedOf badField c
+
+-- what is no call state: 9, before all else
+abbrev pub ifCall : Bool → Call → Event → Outcome
+ifCall true c e = ifInRange (eventOk e) c e
+ifCall false c e = refusedOf notACall c
+
+abbrev pub stepOf : Call → Event → Outcome
+stepOf c e = ifCall (validOf c) c e

@@ -1,0 +1,191 @@
+-- Which calls the table of document 01 allows (else 9), and which events have their fields in range (else 3).
+-- Assumes nothing.
+use Prim.Native.Nat.{ℕ, _^_}
+use mathlib.Core.Bool.{Bool, true, false, _&&_, _||_, not}
+use Rattle.rows.specs.Numbers.{day, callingPart, calledPart, durationPart}
+use Rattle.rows.specs.Read.{bit}
+use lib.Dec.{ltb, leb, eqb}
+use Rattle.meters.specs.declared.Meters.{Meters}
+use Rattle.meters.specs.declared.Payer.{Payer}
+use Rattle.meters.specs.declared.Payer.the-variants.{Nobody, Caller, Called, Far}
+use Rattle.meters.specs.Meters.{withinOf}
+use Rattle.rows.specs.declared.Role.{Role}
+use Rattle.rows.specs.declared.Role.the-variants.{Originating, Destination}
+use Rattle.rows.specs.declared.Phase.{Phase}
+use Rattle.rows.specs.declared.Phase.the-variants.{Unopened, Null, Setup, Answered, Cleared}
+use Rattle.rows.specs.declared.RevState.{RevState}
+use Rattle.rows.specs.declared.RevState.the-variants.{Idle, WaitSetup, WaitActive, WaitAnswer, Active, WaitSetupConf, WaitActiveConf, WaitCalled}
+use Rattle.rows.specs.declared.Number.{Number}
+use Rattle.rows.specs.declared.Message.{Message}
+use Rattle.rows.specs.declared.Call.{Call}
+use Rattle.rows.specs.declared.Component.{Component}
+use Rattle.rows.specs.declared.Component.the-variants.{Absent, Invoke, Result, Error, Reject, Unknown}
+use Rattle.rows.specs.declared.Side.{Side}
+use Rattle.rows.specs.declared.Event.{Event}
+use Rattle.rows.specs.declared.Event.the-variants.{Opening, Ask, Received, FromAccess, Expiry, Time}
+
+-- ---- 9: a call that a host hands in. The table of phases and REV states
+
+abbrev pub idleOnly : RevState → Bool
+idleOnly Idle = true
+idleOnly WaitSetup = false
+idleOnly WaitActive = false
+idleOnly WaitAnswer = false
+idleOnly Active = false
+idleOnly WaitSetupConf = false
+idleOnly WaitActiveConf = false
+idleOnly WaitCalled = false
+
+abbrev pub originatingSetup : RevState → Bool
+originatingSetup Idle = true
+originatingSetup WaitSetup = true
+originatingSetup WaitActive = false
+originatingSetup WaitAnswer = true
+originatingSetup Active = false
+originatingSetup WaitSetupConf = false
+originatingSetup WaitActiveConf = false
+originatingSetup WaitCalled = false
+
+abbrev pub originatingAnswered : RevState → Bool
+originatingAnswered Idle = true
+originatingAnswered WaitSetup = false
+originatingAnswered WaitActive = true
+originatingAnswered WaitAnswer = false
+originatingAnswered Active = true
+originatingAnswered WaitSetupConf = false
+originatingAnswered WaitActiveConf = false
+originatingAnswered WaitCalled = false
+
+abbrev pub destinationSetup : RevState → Bool
+destinationSetup Idle = true
+destinationSetup WaitSetup = false
+destinationSetup WaitActive = false
+destinationSetup WaitAnswer = true
+destinationSetup Active = false
+destinationSetup WaitSetupConf = true
+destinationSetup WaitActiveConf = false
+destinationSetup WaitCalled = true
+
+abbrev pub destinationAnswered : RevState → Bool
+destinationAnswered Idle = true
+destinationAnswered WaitSetup = false
+destinationAnswered WaitActive = false
+destinationAnswered WaitAnswer = false
+destinationAnswered Active = true
+destinationAnswered WaitSetupConf = false
+destinationAnswered WaitActiveConf = true
+destinationAnswered WaitCalled = true
+
+-- the table of phases and REV states
+abbrev pub placedOf : Role → Phase → RevState → Bool
+placedOf r Unopened s = idleOnly s
+placedOf r Null s = idleOnly s
+placedOf Originating Setup s = originatingSetup s
+placedOf Destination Setup s = destinationSetup s
+placedOf Originating Answered s = originatingAnswered s
+placedOf Destination Answered s = destinationAnswered s
+placedOf r Cleared s = idleOnly s
+
+-- ten to the count, up to 15 digits
+abbrev pub pickℕ : Bool → ℕ → ℕ → ℕ
+pickℕ true a b = a
+pickℕ false a b = b
+
+abbrev pub tenTo : ℕ → ℕ
+tenTo n = pickℕ (leb n 15) (10 ^ n) 0
+
+abbrev pub inRange : Number → Bool
+inRange n = ltb (n .value) (tenTo (n .count))
+
+abbrev pub unmetered : Meters → Bool
+unmetered m = eqb (m .caller) 0 && eqb (m .called) 0 && eqb (m .far) 0
+
+abbrev pub payerNobody : Payer → Bool
+payerNobody Nobody = true
+payerNobody Caller = false
+payerNobody Called = false
+payerNobody Far = false
+
+abbrev pub payerThere : Payer → Bool
+payerThere Nobody = false
+payerThere Caller = false
+payerThere Called = true
+payerThere Far = true
+
+abbrev pub noCaller : Role → Meters → Bool
+noCaller Originating m = true
+noCaller Destination m = eqb (m .caller) 0
+
+abbrev pub meteredOf : Role → Phase → Meters → Bool
+meteredOf r Unopened m = unmetered m
+meteredOf r Null m = unmetered m
+meteredOf r Setup m = unmetered m
+meteredOf r Answered m = noCaller r m
+meteredOf r Cleared m = noCaller r m
+
+abbrev pub payingThere : Role → Payer → Bool
+payingThere Originating p = true
+payingThere Destination p = payerThere p
+
+abbrev pub payingOf : Role → Phase → Payer → Bool
+payingOf r Unopened p = payerNobody p
+payingOf r Null p = payerNobody p
+payingOf r Setup p = payerNobody p
+payingOf r Answered p = payingThere r p
+payingOf r Cleared p = payerNobody p
+
+abbrev pub numbersHeld : Side → Bool
+numbersHeld s = inRange (s .own) && (inRange (s .calling) && inRange (s .called))
+
+-- a call that step takes: else 9
+abbrev pub validOf : Call → Bool
+validOf c =
+    placedOf (c .side .role) (c .stand .phase) (c .stand .rev) && (meteredOf (c .side .role) (c .stand .phase) (c .meters)
+    && (withinOf (c .meters) && (payingOf (c .side .role) (c .stand .phase) (c .meters .payer) && numbersHeld (c .side))))
+
+-- ---- 3: a field out of its range
+
+abbrev pub numberThere : Number → Bool
+numberThere n = inRange n && leb 1 (n .count)
+
+abbrev pub numberAbsent : Number → Bool
+numberAbsent n = eqb (n .count) 0 && eqb (n .value) 0
+
+abbrev pub numberIf : Bool → Number → Bool
+numberIf b n = (b && numberThere n) || (not b && numberAbsent n)
+
+abbrev pub openingOk : ℕ → ℕ → Number → Bool
+openingOk r f n = leb r 1 && (leb f 31 && numberThere n)
+
+abbrev pub askOk : ℕ → Number → Bool
+askOk q n = leb q 3 && numberIf (leb q 1) n
+
+abbrev pub componentOk : Component → Bool
+componentOk (Absent n) = eqb n 0
+componentOk (Invoke n) = leb 1 n && leb n 3
+componentOk (Result n) = leb 1 n && leb n 3
+componentOk (Error n) = true
+componentOk (Reject n) = eqb n 0
+componentOk (Unknown k n) = false
+
+-- "Part 4 without part 2 is a bad field"
+abbrev pub partsOk : ℕ → Bool
+partsOk p = leb p 127 && (bit 2 p || not (bit 4 p))
+
+abbrev pub messageOk : Message → Bool
+messageOk m =
+    (leb 1 (m .kind) && leb (m .kind) 5) && (leb (m .cause) 127 && (componentOk (m .component) && (partsOk (m .parts)
+    && (numberIf (bit callingPart (m .parts)) (m .calling) && (numberIf (bit calledPart (m .parts)) (m .called)
+    && (bit durationPart (m .parts) || eqb (m .duration) 0))))))
+
+abbrev pub accessOk : ℕ → ℕ → Bool
+accessOk a n = (leb 1 a && leb a 5) && (eqb a 2 || eqb n 0)
+
+-- an event whose fields are in range: else 3
+abbrev pub eventOk : Event → Bool
+eventOk (Opening r f n) = openingOk r f n
+eventOk (Ask q n) = askOk q n
+eventOk (Received m) = messageOk m
+eventOk (FromAccess a n) = accessOk a n
+eventOk Expiry = true
+eventOk (Time s) = leb s day

@@ -1,0 +1,387 @@
+// The reverse charging (REV) behaviour of one call at one exchange, ITU-T Q.736 clause 3, with the house rows of document 01.
+//
+//     Event --read--> Reading --cue--> Cue --find--> Row --plan--> Plan --perform--> Outcome
+//
+// Finding a row never sees the call, a row's plan is data, and only performing it touches the call: so a row changes in one
+// line, a number behind one name, and the call in one place. This file has the kinds that all of these share.
+mod find;
+mod numbers;
+mod perform;
+mod read;
+mod rows;
+mod step;
+mod valid;
+
+use meters::Change;
+use meters::Meters;
+
+pub enum Role {
+    Originating,
+    Destination,
+}
+
+// Unopened is 01's NONE: a call before its opening is a value too.
+pub enum Phase {
+    Unopened,
+    Null,
+    Setup,
+    Answered,
+    Cleared,
+}
+
+pub enum RevState {
+    Idle,
+    WaitSetup,
+    WaitActive,
+    WaitAnswer,
+    Active,
+    WaitSetupConf,
+    WaitActiveConf,
+    WaitCalled,
+}
+
+// A number as a record carries it: the count of its digits, and its value. Absent: 0 and 0.
+pub struct Number {
+    pub count: u8,
+    pub value: u64,
+}
+
+// A message's component, by 01's code: 0 to 4, with the byte that follows (operation or error number, else 0).
+pub enum Component {
+    Absent(u8),
+    Invoke(u8),
+    Result(u8),
+    Error(u8),
+    Reject(u8),
+    Unknown(u8, u8),
+}
+
+// A message, received or sent. A number or Duration that its parts do not name is absent, or 0.
+pub struct Message {
+    pub kind: u8,
+    pub cause: u8,
+    pub component: Component,
+    pub parts: u8,
+    pub calling: Number,
+    pub called: Number,
+    pub duration: u32,
+}
+
+// One case for each kind of record. The fields are the numbers that the record carries, so that every well-framed record
+// has its event; where one is out of its range the call answers 3.
+pub enum Event {
+    Opening(u8, u8, Number),
+    Ask(u8, Number),
+    Received(Message),
+    FromAccess(u8, u8),
+    Expiry,
+    Time(u32),
+}
+
+// What an event says, in one form for all kinds.
+pub struct Reading {
+    pub kind: Kind,
+    // the role of an opening, what the own user asks, what the access tells
+    pub item: u8,
+    pub flags: u8,
+    pub component: Component,
+    pub parts: u8,
+    pub error: u8,
+    pub cause: u8,
+    // seconds that passed, or the Duration received
+    pub seconds: u32,
+    pub own: Number,
+    pub calling: Number,
+    pub called: Number,
+}
+
+// What an event is to the tables that find its row.
+pub struct Cue {
+    pub kind: Kind,
+    pub asked: Asked,
+    pub heard: Heard,
+    pub told: Told,
+}
+
+// Answer: ANM or CON, which no row tells apart.
+pub enum Kind {
+    Opens,
+    Asks,
+    Iam,
+    Answer,
+    Rel,
+    Fac,
+    Tells,
+    Expires,
+    Passes,
+}
+
+// What the own user asks for: a basic call, or reverse charging by case A, B or C.
+pub struct Asked {
+    pub basic: bool,
+    pub casea: bool,
+    pub caseb: bool,
+    pub casec: bool,
+    pub reversal: bool,
+}
+
+// What a message's component is. invoke: with any operation.
+pub struct Heard {
+    pub alone: bool,
+    pub invoke: bool,
+    pub invokesetup: bool,
+    pub invokeactive: bool,
+    pub invokecalled: bool,
+    pub resultsetup: bool,
+    pub resultactive: bool,
+    pub resultcalled: bool,
+    pub failure: bool,
+    pub rejection: bool,
+}
+
+// What the own access tells. answers: without REV.
+pub struct Told {
+    pub accepts: bool,
+    pub refuses: bool,
+    pub rejects: bool,
+    pub clears: bool,
+    pub answers: bool,
+}
+
+// A row of the clause, or the rows of one sentence that differ by flags, transfer or an error number alone.
+// The names O1 .. O40, D1 .. D56 and G1 .. G5 are those of docs/ROWS.md.
+pub enum Row {
+    // no row: 1
+    NoRow,
+    // G1
+    Opened,
+    // G2
+    TimeInSetup,
+    // G3
+    TimeCounts,
+    // G4, O19, O39, D15, D25, D55
+    ClearedHere,
+    // G5, O18, O40, D24, D56
+    Released,
+    // O35, O37, D43, D53
+    RunningHere,
+    // O36, O38, D44, D54
+    RunningThere,
+    // O1
+    BasicRequest,
+    // O2, O3, O4
+    AskSetup,
+    // O5
+    BasicAnswer,
+    // O6, O7, O8
+    CallAsked,
+    // O9, O10
+    SetupAccepted,
+    // O11, O12
+    SetupError,
+    // O13
+    SetupReleased,
+    // O14, O15
+    SetupFailed,
+    // O16, O17
+    CallAnswered,
+    // O20, O21, O22
+    AskActive,
+    // O23 to O27
+    CalledAsked,
+    // O28, O29
+    ActiveAccepted,
+    // O30, O31, D48, D49
+    WaitError,
+    // O32, O33, D50, D51
+    WaitFailed,
+    // O34, D52
+    WaitReleased,
+    // D1 to D4
+    PlainIam,
+    // D5 to D8
+    SetupAsked,
+    // D9
+    AnsweredHere,
+    // D10, D11
+    SetupConfirmed,
+    // D12, D13
+    SetupRefused,
+    // D14
+    SetupRejected,
+    // D16
+    SetupIgnored,
+    // D17
+    SetupExpired,
+    // D18, D19
+    CallAccepted,
+    // D20, D21
+    CallFailed,
+    // D22, D23
+    CallConnected,
+    // D26 to D29
+    ActiveAsked,
+    // D30 to D33
+    AskPartial,
+    // D30, D31, D34, D35
+    AskEntire,
+    // D36, D37
+    ActiveConfirmed,
+    // D38, D39
+    ActiveRefused,
+    // D40
+    ActiveRejected,
+    // D41
+    ActiveIgnored,
+    // D42
+    ActiveCleared,
+    // D45, D46, D47
+    CalledAccepted,
+}
+
+// What a row may look at besides its state: flags, parts, what is pending, an error.
+pub struct Terms {
+    // the flags: interaction allowed; transfer; not subscribed, under the option; case D
+    pub interaction: bool,
+    pub transfer: bool,
+    pub barred: bool,
+    pub unconditional: bool,
+    // an invoke asks for transfer, and it is taken here
+    pub taken: bool,
+    // an invoke has the called number, or asks for transfer
+    pub enough: bool,
+    // a result accepts the transfer that was asked for here
+    pub accepted: bool,
+    // parts that are there
+    pub partial: bool,
+    pub calling: bool,
+    pub duration: bool,
+    // pending: transfer was agreed; the rest of the call alone was asked for
+    pub agreed: bool,
+    pub rest: bool,
+    // the error to pass on: the same where it is REV's, else Not Available; and the cause to pass on with it
+    pub error: u8,
+    pub reason: u8,
+    // the cause received
+    pub cause: u8,
+}
+
+// What a row does. number: 0, or the refusal.
+pub struct Plan {
+    pub number: u8,
+    pub next: Next,
+    pub change: Change,
+    pub register: Register,
+    pub first: Act,
+    pub second: Act,
+    pub third: Act,
+    pub fourth: Act,
+    // of the message sent, if one is
+    pub component: Component,
+    pub parts: u8,
+    // of the error and the release, if any
+    pub error: u8,
+    pub cause: u8,
+}
+
+// Where the call stands next. A wait that has agreed on transfer, or asked for the rest or for the entire call, remembers it.
+pub enum Next {
+    Stay,
+    ToNull,
+    ToSetup,
+    ToWaitSetup,
+    ToWaitAnswer,
+    ToWaitAnswerTransfer,
+    ToWaitSetupConf,
+    ToWaitSetupConfTransfer,
+    ToSetupWaitCalled,
+    ToAnswered,
+    ToWaitActive,
+    ToWaitActiveConf,
+    ToWaitActiveConfTransfer,
+    ToWaitCalledRest,
+    ToWaitCalledEntire,
+    ToActive,
+    ToCleared,
+}
+
+// What is registered for charging.
+pub enum Register {
+    AsHeld,
+    FromOpening,
+    CalledNumber,
+    CallingNumber,
+}
+
+// An action of a plan. Stop: only if a payer charged at this exchange changes.
+pub enum Act {
+    Nothing,
+    NotifyAccepted,
+    AccessSetup,
+    AccessAsk,
+    AccessError,
+    AccessRel,
+    ChargeCalling,
+    ChargeCalled,
+    Stop,
+    SendIam,
+    SendAnm,
+    SendRel,
+    SendFac,
+}
+
+pub struct Flags {
+    pub transfer: bool,
+    pub option: bool,
+    pub subscribed: bool,
+    pub interaction: bool,
+    pub unconditional: bool,
+}
+
+// Which exchange this is, and whose numbers it holds.
+pub struct Side {
+    pub role: Role,
+    pub flags: Flags,
+    pub own: Number,
+    pub calling: Number,
+    pub called: Number,
+}
+
+// Where the call stands. Pending in a wait: transfer was agreed; the rest of the call alone was asked for.
+pub struct Stand {
+    pub phase: Phase,
+    pub rev: RevState,
+    pub agreed: bool,
+    pub rest: bool,
+}
+
+// One call at one exchange.
+pub struct Call {
+    pub side: Side,
+    pub stand: Stand,
+    pub meters: Meters,
+}
+
+pub enum Action {
+    Nothing,
+    NotifyAccepted,
+    AccessSetup,
+    AccessAsk,
+    AccessError(u8),
+    AccessRel(u8),
+    ChargeCalling,
+    ChargeCalled,
+    Stop,
+    Send(Message),
+}
+
+// The answer to an event. The actions stand in order; Nothing among them is none, and a host skips it.
+// A refusal has the call as it stood and no action.
+pub struct Outcome {
+    pub number: u8,
+    pub call: Call,
+    pub first: Action,
+    pub second: Action,
+    pub third: Action,
+    pub fourth: Action,
+}

@@ -1,0 +1,332 @@
+// PERFORM: a plan carried out, once. Only here is a call touched: its side by what is registered, its stand by where it goes
+// next, its meters by their change.
+ghost use mathlib.Core.Path.{_≡_};
+ghost use Rattle.rows.specs.Perform.{ifThere, secondsIf, noteOf, sentOf, stoppingOf, actionOf, standOf, roleBy, orHeld, openedOf, withNumbers, sideOf, refusedOf, givenOf, followsOf, doesOf, appliesOf, performOf};
+use crate::Act;
+use crate::Action;
+use crate::Call;
+use crate::Component;
+use crate::Message;
+use crate::Next;
+use crate::Number;
+use crate::Outcome;
+use crate::Phase;
+use crate::Plan;
+use crate::Reading;
+use crate::Register;
+use crate::RevState;
+use crate::Role;
+use crate::Side;
+use crate::Stand;
+use crate::numbers::ANM;
+use crate::numbers::APPLIED;
+use crate::numbers::FAC;
+use crate::numbers::IAM;
+use crate::numbers::NOBODY_PAYS;
+use crate::numbers::REL;
+use crate::numbers::TOO_MUCH;
+use crate::read;
+use meters::Metered;
+use meters::Meters;
+use meters::Payer;
+
+const ABSENT: Number = Number { count: 0, value: 0 };
+
+fn if_there(there: bool, n: Number) -> Number
+    ensures { λ out. ⌜ out ≡ ifThere there n ⌝ }
+{
+    if there { n } else { ABSENT }
+}
+
+// The message that a plan sends, its name left open. Only the own number is ever sent; the Duration is the caller's meter.
+fn note_of(cause: u8, component: Component, parts: u8, own: Number, caller: u32) -> Message
+    ensures { λ out. ⌜ out ≡ noteOf cause component parts own caller ⌝ }
+{
+    let calling = if_there((parts / 16) % 2 == 1, own);
+    let called = if_there((parts / 32) % 2 == 1, own);
+    let duration = seconds_if((parts / 64) % 2 == 1, caller);
+    Message {
+        kind: 0,
+        cause: cause,
+        component: component,
+        parts: parts,
+        calling: calling,
+        called: called,
+        duration: duration,
+    }
+}
+
+fn seconds_if(there: bool, seconds: u32) -> u32
+    ensures { λ out. ⌜ out ≡ secondsIf there seconds ⌝ }
+{
+    if there { seconds } else { 0 }
+}
+
+fn sent(kind: u8, note: Message) -> Action
+    ensures { λ out. ⌜ out ≡ sentOf kind note ⌝ }
+{
+    let component = note.component;
+    let calling = note.calling;
+    let called = note.called;
+    Action::Send(Message {
+        kind: kind,
+        cause: note.cause,
+        component: component,
+        parts: note.parts,
+        calling: calling,
+        called: called,
+        duration: note.duration,
+    })
+}
+
+// STOP: a payer charged at this exchange (the caller, or the called user) changes.
+fn stopping(before: Payer, after: Payer) -> Action
+    ensures { λ out. ⌜ out ≡ stoppingOf before after ⌝ }
+{
+    match before {
+        Payer::Nobody => Action::Nothing,
+        Payer::Caller => match after {
+            Payer::Nobody => Action::Stop,
+            Payer::Caller => Action::Nothing,
+            Payer::Called => Action::Stop,
+            Payer::Far => Action::Stop,
+        },
+        Payer::Called => match after {
+            Payer::Nobody => Action::Stop,
+            Payer::Caller => Action::Stop,
+            Payer::Called => Action::Nothing,
+            Payer::Far => Action::Stop,
+        },
+        Payer::Far => Action::Nothing,
+    }
+}
+
+fn action_of(act: Act, note: Message, error: u8, stop: Action) -> Action
+    ensures { λ out. ⌜ out ≡ actionOf act note error stop ⌝ }
+{
+    match act {
+        Act::Nothing => Action::Nothing,
+        Act::NotifyAccepted => Action::NotifyAccepted,
+        Act::AccessSetup => Action::AccessSetup,
+        Act::AccessAsk => Action::AccessAsk,
+        Act::AccessError => Action::AccessError(error),
+        Act::AccessRel => Action::AccessRel(note.cause),
+        Act::ChargeCalling => Action::ChargeCalling,
+        Act::ChargeCalled => Action::ChargeCalled,
+        Act::Stop => stop,
+        Act::SendIam => sent(IAM, note),
+        Act::SendAnm => sent(ANM, note),
+        Act::SendRel => sent(REL, note),
+        Act::SendFac => sent(FAC, note),
+    }
+}
+
+fn at(phase: Phase, rev: RevState, agreed: bool, rest: bool) -> Stand
+    ensures { λ out. ⌜ out ≡ record { phase = phase; rev = rev; agreed = agreed; rest = rest } ⌝ }
+{
+    Stand {
+        phase: phase,
+        rev: rev,
+        agreed: agreed,
+        rest: rest,
+    }
+}
+
+// Where the call stands next.
+fn stand_of(next: Next, now: Stand) -> Stand
+    ensures { λ out. ⌜ out ≡ standOf next now ⌝ }
+{
+    match next {
+        Next::Stay => now,
+        Next::ToNull => at(Phase::Null, RevState::Idle, false, false),
+        Next::ToSetup => at(Phase::Setup, RevState::Idle, false, false),
+        Next::ToWaitSetup => at(Phase::Setup, RevState::WaitSetup, false, false),
+        Next::ToWaitAnswer => at(Phase::Setup, RevState::WaitAnswer, false, false),
+        Next::ToWaitAnswerTransfer => at(Phase::Setup, RevState::WaitAnswer, true, false),
+        Next::ToWaitSetupConf => at(Phase::Setup, RevState::WaitSetupConf, false, false),
+        Next::ToWaitSetupConfTransfer => at(Phase::Setup, RevState::WaitSetupConf, true, false),
+        Next::ToSetupWaitCalled => at(Phase::Setup, RevState::WaitCalled, false, false),
+        Next::ToAnswered => at(Phase::Answered, RevState::Idle, false, false),
+        Next::ToWaitActive => at(Phase::Answered, RevState::WaitActive, false, false),
+        Next::ToWaitActiveConf => at(Phase::Answered, RevState::WaitActiveConf, false, false),
+        Next::ToWaitActiveConfTransfer => at(
+            Phase::Answered,
+            RevState::WaitActiveConf,
+            true,
+            false,
+        ),
+        Next::ToWaitCalledRest => at(Phase::Answered, RevState::WaitCalled, false, true),
+        Next::ToWaitCalledEntire => at(Phase::Answered, RevState::WaitCalled, false, false),
+        Next::ToActive => at(Phase::Answered, RevState::Active, false, false),
+        Next::ToCleared => at(Phase::Cleared, RevState::Idle, false, false),
+    }
+}
+
+fn role_by(destination: bool) -> Role
+    ensures { λ out. ⌜ out ≡ roleBy destination ⌝ }
+{
+    if destination {
+        Role::Destination
+    } else {
+        Role::Originating
+    }
+}
+
+// A number that the event carries is registered; where it carries none, what was held stays.
+fn or_held(there: bool, n: Number, held: Number) -> Number
+    ensures { λ out. ⌜ out ≡ orHeld there n held ⌝ }
+{
+    if there { n } else { held }
+}
+
+fn opened(r: Reading) -> Side
+    ensures { λ out. ⌜ out ≡ openedOf r ⌝ }
+{
+    let own = r.own;
+    let role = role_by(r.item == 1);
+    let flags = read::flags_of(r.flags);
+    Side {
+        role: role,
+        flags: flags,
+        own: own,
+        calling: ABSENT,
+        called: ABSENT,
+    }
+}
+
+fn with_numbers(side: Side, calling: Number, called: Number) -> Side
+    ensures { λ out. ⌜ out ≡ withNumbers side calling called ⌝ }
+{
+    let role = side.role;
+    let flags = side.flags;
+    let own = side.own;
+    Side {
+        role: role,
+        flags: flags,
+        own: own,
+        calling: calling,
+        called: called,
+    }
+}
+
+// What is registered for charging.
+fn side_of(register: Register, side: Side, r: Reading) -> Side
+    ensures { λ out. ⌜ out ≡ sideOf register side r ⌝ }
+{
+    let calling = side.calling;
+    let called = side.called;
+    let newcalling = r.calling;
+    let newcalled = r.called;
+    match register {
+        Register::AsHeld => side,
+        Register::FromOpening => opened(r),
+        Register::CalledNumber => with_numbers(
+            side,
+            calling,
+            or_held(1 <= newcalled.count, newcalled, called),
+        ),
+        Register::CallingNumber => with_numbers(
+            side,
+            or_held(1 <= newcalling.count, newcalling, calling),
+            called,
+        ),
+    }
+}
+
+fn applies(number: u8) -> bool
+    ensures { λ out. ⌜ out ≡ appliesOf number ⌝ }
+{
+    number == APPLIED
+}
+
+impl Call {
+    // A refusal: its number, no actions and the call as it stood.
+    pub fn refused(self, number: u8) -> Outcome
+        ensures { λ out. ⌜ out ≡ refusedOf number self ⌝ }
+    {
+        Outcome {
+            number: number,
+            call: self,
+            first: Action::Nothing,
+            second: Action::Nothing,
+            third: Action::Nothing,
+            fourth: Action::Nothing,
+        }
+    }
+
+    // The row applied, with the meters that follow. The Duration sent is the caller's meter as it stood before.
+    fn follows(self, p: Plan, r: Reading, after: Meters) -> Outcome
+        ensures { λ out. ⌜ out ≡ followsOf self p r after ⌝ }
+    {
+        let side = self.side;
+        let stand = self.stand;
+        let before = self.meters;
+        let own = side.own;
+        let register = p.register;
+        let next = p.next;
+        let component = p.component;
+        let payer = before.payer;
+        let then = after.payer;
+        let newside = side_of(register, side, r);
+        let newstand = stand_of(next, stand);
+        let note = note_of(p.cause, component, p.parts, own, before.caller);
+        let stop = stopping(payer, then);
+        p.given(
+            Call {
+                side: newside,
+                stand: newstand,
+                meters: after,
+            },
+            note,
+            stop,
+        )
+    }
+
+    // 10 and 2 are the meters' own refusals.
+    fn does(self, p: Plan, r: Reading) -> Outcome
+        ensures { λ out. ⌜ out ≡ doesOf self p r ⌝ }
+    {
+        let m = self.meters;
+        let change = p.change;
+        let t = m.change(change, r.seconds);
+        match t {
+            Metered::Done(after) => self.follows(p, r, after),
+            Metered::NoPayer => self.refused(NOBODY_PAYS),
+            Metered::TooMuch => self.refused(TOO_MUCH),
+        }
+    }
+
+    pub fn perform(self, p: Plan, r: Reading) -> Outcome
+        ensures { λ out. ⌜ out ≡ performOf self p r ⌝ }
+    {
+        if applies(p.number) {
+            self.does(p, r)
+        } else {
+            self.refused(p.number)
+        }
+    }
+}
+
+impl Plan {
+    // The plan's actions, in order.
+    fn given(self, call: Call, note: Message, stop: Action) -> Outcome
+        ensures { λ out. ⌜ out ≡ givenOf self call note stop ⌝ }
+    {
+        let a = self.first;
+        let b = self.second;
+        let d = self.third;
+        let f = self.fourth;
+        let first = action_of(a, note, self.error, stop);
+        let second = action_of(b, note, self.error, stop);
+        let third = action_of(d, note, self.error, stop);
+        let fourth = action_of(f, note, self.error, stop);
+        Outcome {
+            number: APPLIED,
+            call: call,
+            first: first,
+            second: second,
+            third: third,
+            fourth: fourth,
+        }
+    }
+}

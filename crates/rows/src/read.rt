@@ -1,0 +1,257 @@
+// What an event says: in one form for all kinds, to the tables that find its row, and to the rows.
+ghost use mathlib.Core.Path.{_≡_};
+ghost use Rattle.rows.specs.Read.{bit, flagsOf, askedOf, toldOf, heardBy, heardOf, kindBy, kindOf, errorOf, plainOf, readMessage, readOf, cueOf, listedOf, orElse, termsOf};
+use crate::Asked;
+use crate::Component;
+use crate::Cue;
+use crate::Event;
+use crate::Flags;
+use crate::Heard;
+use crate::Kind;
+use crate::Message;
+use crate::Number;
+use crate::Reading;
+use crate::Stand;
+use crate::Terms;
+use crate::Told;
+use crate::numbers::FACILITY_REJECTED;
+use crate::numbers::NORMAL_CLEARING;
+use crate::numbers::NOT_AVAILABLE;
+use crate::numbers::REV_ERRORS;
+
+const ABSENT: Number = Number { count: 0, value: 0 };
+
+// 01, kind 1: 1 transfer, 2 subscription option, 4 subscribed, 8 interaction allowed, 16 case D.
+pub fn flags_of(n: u8) -> Flags
+    ensures { λ out. ⌜ out ≡ flagsOf n ⌝ }
+{
+    Flags {
+        transfer: n % 2 == 1,
+        option: (n / 2) % 2 == 1,
+        subscribed: (n / 4) % 2 == 1,
+        interaction: (n / 8) % 2 == 1,
+        unconditional: (n / 16) % 2 == 1,
+    }
+}
+
+pub fn asked_of(n: u8) -> Asked
+    ensures { λ out. ⌜ out ≡ askedOf n ⌝ }
+{
+    Asked {
+        basic: n == 0,
+        casea: n == 1,
+        caseb: n == 2,
+        casec: n == 3,
+        reversal: (1 <= n) & (n <= 3),
+    }
+}
+
+pub fn told_of(n: u8) -> Told
+    ensures { λ out. ⌜ out ≡ toldOf n ⌝ }
+{
+    Told {
+        accepts: n == 1,
+        refuses: n == 2,
+        rejects: n == 3,
+        clears: n == 4,
+        answers: n == 5,
+    }
+}
+
+fn heard_by(alone: bool, invoke: bool, result: bool, failure: bool, rejection: bool, n: u8) -> Heard
+    ensures { λ out. ⌜ out ≡ heardBy alone invoke result failure rejection n ⌝ }
+{
+    Heard {
+        alone: alone,
+        invoke: invoke,
+        invokesetup: invoke & (n == 1),
+        invokeactive: invoke & (n == 2),
+        invokecalled: invoke & (n == 3),
+        resultsetup: result & (n == 1),
+        resultactive: result & (n == 2),
+        resultcalled: result & (n == 3),
+        failure: failure,
+        rejection: rejection,
+    }
+}
+
+pub fn heard_of(component: Component) -> Heard
+    ensures { λ out. ⌜ out ≡ heardOf component ⌝ }
+{
+    match component {
+        Component::Absent(n) => heard_by(true, false, false, false, false, n),
+        Component::Invoke(n) => heard_by(false, true, false, false, false, n),
+        Component::Result(n) => heard_by(false, false, true, false, false, n),
+        Component::Error(n) => heard_by(false, false, false, true, false, n),
+        Component::Reject(n) => heard_by(false, false, false, false, true, n),
+        Component::Unknown(_, n) => heard_by(false, false, false, false, false, n),
+    }
+}
+
+fn kind_by(iam: bool, answer: bool, rel: bool) -> Kind
+    ensures { λ out. ⌜ out ≡ kindBy iam answer rel ⌝ }
+{
+    if iam {
+        Kind::Iam
+    } else {
+        if answer {
+            Kind::Answer
+        } else {
+            if rel { Kind::Rel } else { Kind::Fac }
+        }
+    }
+}
+
+// A message, by its number; a message that is none of 1 to 5 gets 3 before any row is looked for.
+pub fn kind_of(n: u8) -> Kind
+    ensures { λ out. ⌜ out ≡ kindOf n ⌝ }
+{
+    kind_by(n == 1, (n == 2) | (n == 3), n == 4)
+}
+
+pub fn error_of(component: Component) -> u8
+    ensures { λ out. ⌜ out ≡ errorOf component ⌝ }
+{
+    match component {
+        Component::Absent(_) => 0,
+        Component::Invoke(_) => 0,
+        Component::Result(_) => 0,
+        Component::Error(n) => n,
+        Component::Reject(_) => 0,
+        Component::Unknown(_, _) => 0,
+    }
+}
+
+fn plain(kind: Kind, item: u8, error: u8, cause: u8, seconds: u32) -> Reading
+    ensures { λ out. ⌜ out ≡ plainOf kind item error cause seconds ⌝ }
+{
+    Reading {
+        kind: kind,
+        item: item,
+        flags: 0,
+        component: Component::Absent(0),
+        parts: 0,
+        error: error,
+        cause: cause,
+        seconds: seconds,
+        own: ABSENT,
+        calling: ABSENT,
+        called: ABSENT,
+    }
+}
+
+pub fn read(e: Event) -> Reading
+    ensures { λ out. ⌜ out ≡ readOf e ⌝ }
+{
+    match e {
+        Event::Opening(role, flags, own) => Reading {
+            kind: Kind::Opens,
+            item: role,
+            flags: flags,
+            component: Component::Absent(0),
+            parts: 0,
+            error: 0,
+            cause: 0,
+            seconds: 0,
+            own: own,
+            calling: ABSENT,
+            called: ABSENT,
+        },
+        Event::Ask(item, called) => Reading {
+            kind: Kind::Asks,
+            item: item,
+            flags: 0,
+            component: Component::Absent(0),
+            parts: 0,
+            error: 0,
+            cause: 0,
+            seconds: 0,
+            own: ABSENT,
+            calling: ABSENT,
+            called: called,
+        },
+        Event::Received(m) => read_message(m),
+        // The access gives no cause: 16 if none.
+        Event::FromAccess(item, error) => plain(Kind::Tells, item, error, NORMAL_CLEARING, 0),
+        Event::Expiry => plain(Kind::Expires, 0, 0, 0, 0),
+        Event::Time(seconds) => plain(Kind::Passes, 0, 0, 0, seconds),
+    }
+}
+
+fn read_message(m: Message) -> Reading
+    ensures { λ out. ⌜ out ≡ readMessage m ⌝ }
+{
+    let component = m.component;
+    let calling = m.calling;
+    let called = m.called;
+    let kind = kind_of(m.kind);
+    let error = error_of(component);
+    Reading {
+        kind: kind,
+        item: 0,
+        flags: 0,
+        component: component,
+        parts: m.parts,
+        error: error,
+        cause: m.cause,
+        seconds: m.duration,
+        own: ABSENT,
+        calling: calling,
+        called: called,
+    }
+}
+
+pub fn cue_of(r: Reading) -> Cue
+    ensures { λ out. ⌜ out ≡ cueOf r ⌝ }
+{
+    let kind = r.kind;
+    let component = r.component;
+    let asked = asked_of(r.item);
+    let heard = heard_of(component);
+    let told = told_of(r.item);
+    Cue {
+        kind: kind,
+        asked: asked,
+        heard: heard,
+        told: told,
+    }
+}
+
+// An error is REV's if the module lists it: the bit of its number.
+pub fn listed(n: u8) -> bool
+    ensures { λ out. ⌜ out ≡ listedOf n ⌝ }
+{
+    (n <= 15) & ((REV_ERRORS >> (n % 16)) % 2 == 1)
+}
+
+fn or_else(same: bool, n: u8, other: u8) -> u8
+    ensures { λ out. ⌜ out ≡ orElse same n other ⌝ }
+{
+    if same { n } else { other }
+}
+
+pub fn terms_of(f: Flags, at: Stand, r: Reading) -> Terms
+    ensures { λ out. ⌜ out ≡ termsOf f at r ⌝ }
+{
+    let same = listed(r.error);
+    let error = or_else(same, r.error, NOT_AVAILABLE);
+    let reason = or_else(same, r.cause, FACILITY_REJECTED);
+    let parts = r.parts;
+    Terms {
+        interaction: f.interaction,
+        transfer: f.transfer,
+        barred: f.option & !f.subscribed,
+        unconditional: f.unconditional,
+        taken: f.transfer & (parts % 2 == 1),
+        enough: (parts % 2 == 1) | ((parts / 32) % 2 == 1),
+        accepted: f.transfer & (((parts / 2) % 2 == 1) & ((parts / 4) % 2 == 1)),
+        partial: (parts / 8) % 2 == 1,
+        calling: (parts / 16) % 2 == 1,
+        duration: (parts / 64) % 2 == 1,
+        agreed: at.agreed,
+        rest: at.rest,
+        error: error,
+        reason: reason,
+        cause: r.cause,
+    }
+}
