@@ -5,3 +5,4 @@ pub mod Read
 pub mod Rows
 pub mod Step
 pub mod Valid
+pub mod Tried

@@ -22,90 +22,12 @@ use Rattle.rows.specs.declared.Terms.{Terms}
 
 -- ---- The shapes of a plan
 
--- no row, or a needed part that is absent
-abbrev pub refuses : ℕ → Plan
-refuses n =
+-- all that a plan says
+abbrev pub row : ℕ → Next → Change → Register → Act → Act → Act → Act → Component → ℕ → ℕ → ℕ → Plan
+row n to m r a b d f x p e u =
     record {
       number = n;
-      next = Stay;
-      change = Keep;
-      register = AsHeld;
-      first = Nothing;
-      second = Nothing;
-      third = Nothing;
-      fourth = Nothing;
-      component = Absent 0;
-      parts = noPart;
-      error = 0;
-      cause = 0;
-    }
-
--- actions of this exchange alone
-abbrev pub acts : Next → Change → Register → Act → Act → Act → Plan
-acts n m r a b d =
-    record {
-      number = applied;
-      next = n;
-      change = m;
-      register = r;
-      first = a;
-      second = b;
-      third = d;
-      fourth = Nothing;
-      component = Absent 0;
-      parts = noPart;
-      error = 0;
-      cause = 0;
-    }
-
-abbrev pub quiet : Next → Change → Register → Plan
-quiet n m r = acts n m r Nothing Nothing Nothing
-
--- one message
-abbrev pub sends : Next → Change → Register → Act → Component → ℕ → Plan
-sends n m r a x p =
-    record {
-      number = applied;
-      next = n;
-      change = m;
-      register = r;
-      first = a;
-      second = Nothing;
-      third = Nothing;
-      fourth = Nothing;
-      component = x;
-      parts = p;
-      error = 0;
-      cause = 0;
-    }
-
--- an error, to the own access or to the other exchange; the call goes on
-abbrev pub accessError : Next → ℕ → Plan
-accessError n e =
-    record {
-      number = applied;
-      next = n;
-      change = Keep;
-      register = AsHeld;
-      first = AccessError;
-      second = Nothing;
-      third = Nothing;
-      fourth = Nothing;
-      component = Absent 0;
-      parts = noPart;
-      error = e;
-      cause = 0;
-    }
-
-abbrev pub farError : Next → ℕ → Plan
-farError n e = sends n Keep AsHeld SendFac (Error e) noPart
-
--- the reversal takes effect, with a message among the actions
-abbrev pub turns : Change → Register → Act → Act → Act → Act → Component → ℕ → Plan
-turns m r a b d f x p =
-    record {
-      number = applied;
-      next = ToActive;
+      next = to;
       change = m;
       register = r;
       first = a;
@@ -114,27 +36,39 @@ turns m r a b d f x p =
       fourth = f;
       component = x;
       parts = p;
-      error = 0;
-      cause = 0;
-    }
-
--- the call clears
-abbrev pub clears : Act → Act → Act → Component → ℕ → ℕ → Plan
-clears a b d x e u =
-    record {
-      number = applied;
-      next = ToCleared;
-      change = NobodyPays;
-      register = AsHeld;
-      first = a;
-      second = b;
-      third = d;
-      fourth = Nothing;
-      component = x;
-      parts = noPart;
       error = e;
       cause = u;
     }
+
+-- no row, or a needed part that is absent
+abbrev pub refuses : ℕ → Plan
+refuses n = row n Stay Keep AsHeld Nothing Nothing Nothing Nothing (Absent 0) noPart 0 0
+
+-- actions of this exchange alone
+abbrev pub acts : Next → Change → Register → Act → Act → Act → Plan
+acts to m r a b d = row applied to m r a b d Nothing (Absent 0) noPart 0 0
+
+abbrev pub quiet : Next → Change → Register → Plan
+quiet to m r = acts to m r Nothing Nothing Nothing
+
+-- one message
+abbrev pub sends : Next → Change → Register → Act → Component → ℕ → Plan
+sends to m r a x p = row applied to m r a Nothing Nothing Nothing x p 0 0
+
+-- an error, to the own access or to the other exchange; the call goes on
+abbrev pub accessError : Next → ℕ → Plan
+accessError to e = row applied to Keep AsHeld AccessError Nothing Nothing Nothing (Absent 0) noPart e 0
+
+abbrev pub farError : Next → ℕ → Plan
+farError to e = sends to Keep AsHeld SendFac (Error e) noPart
+
+-- the reversal takes effect, with a message among the actions
+abbrev pub turns : Change → Register → Act → Act → Act → Act → Component → ℕ → Plan
+turns m r a b d f x p = row applied ToActive m r a b d f x p 0 0
+
+-- the call clears
+abbrev pub clears : Act → Act → Act → Component → ℕ → ℕ → Plan
+clears a b d x e u = row applied ToCleared NobodyPays AsHeld a b d Nothing x noPart e u
 
 abbrev pub stops : Act → Component → ℕ → Plan
 stops a x u = clears Stop a Nothing x 0 u

@@ -9,6 +9,8 @@ use Rattle.rows.specs.Read.{absent, flagsOf, readOf, cueOf, termsOf}
 use Rattle.rows.specs.Rows.{planOf}
 use Rattle.rows.specs.Valid.{validOf, eventOk}
 use Rattle.meters.specs.Meters.{newOf}
+use mathlib.Core.List.{List, [], _∷_}
+use Rattle.rows.specs.declared.Action.{Action}
 use Rattle.rows.specs.declared.Call.{Call}
 use Rattle.rows.specs.declared.Event.{Event}
 use Rattle.rows.specs.declared.Outcome.{Outcome}
@@ -46,3 +48,19 @@ ifCall false c e = refusedOf notACall c
 
 abbrev pub stepOf : Call → Event → Outcome
 stepOf c e = ifCall (validOf c) c e
+
+-- the actions of an answer, in order: where one is Nothing there is none
+abbrev pub andThen : Action → List Action → List Action
+andThen Action.Nothing rest = rest
+andThen Action.NotifyAccepted rest = Action.NotifyAccepted ∷ rest
+andThen Action.AccessSetup rest = Action.AccessSetup ∷ rest
+andThen Action.AccessAsk rest = Action.AccessAsk ∷ rest
+andThen (Action.AccessError n) rest = Action.AccessError n ∷ rest
+andThen (Action.AccessRel n) rest = Action.AccessRel n ∷ rest
+andThen Action.ChargeCalling rest = Action.ChargeCalling ∷ rest
+andThen Action.ChargeCalled rest = Action.ChargeCalled ∷ rest
+andThen Action.Stop rest = Action.Stop ∷ rest
+andThen (Action.Send m) rest = Action.Send m ∷ rest
+
+abbrev pub actionsOf : Outcome → List Action
+actionsOf o = andThen (o .first) (andThen (o .second) (andThen (o .third) (andThen (o .fourth) [])))

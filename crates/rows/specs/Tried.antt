@@ -1,0 +1,142 @@
+-- 01, "Calls to try": the histories marked P, as theorems about the definition. Each computes.
+-- Assumes nothing.
+use Prim.Native.Nat.{ℕ, _+_}
+use mathlib.Core.Bool.{true, false}
+use mathlib.Core.List.{List, [], _∷_}
+use mathlib.Core.Path.{_≡_, refl}
+use Rattle.meters.specs.declared.Payer.{Payer}
+use Rattle.rows.specs.Numbers.{iam, anm, rel, fac, callingReqSetup, calledRequest, notAvailable, alreadyRunning, normalClearing, facilityRejected, noPart, transferPart, partialPart, callingPart, calledPart, durationPart, agreedParts}
+use Rattle.rows.specs.Perform.{at}
+use Rattle.rows.specs.Read.{absent, flagsOf}
+use Rattle.rows.specs.Step.{unopenedCall, stepOf, actionsOf}
+use Rattle.rows.specs.declared.Action.{Action}
+use Rattle.rows.specs.declared.Action.the-variants.{NotifyAccepted, AccessError, AccessRel, ChargeCalling, ChargeCalled, Stop, Send}
+use Rattle.rows.specs.declared.Call.{Call}
+use Rattle.rows.specs.declared.Component.{Component}
+use Rattle.rows.specs.declared.Component.the-variants.{Absent, Invoke, Result}
+use Rattle.rows.specs.declared.Event.{Event}
+use Rattle.rows.specs.declared.Event.the-variants.{Opening, Ask, Received, FromAccess, Expiry, Time}
+use Rattle.rows.specs.declared.Message.{Message}
+use Rattle.rows.specs.declared.Number.{Number}
+use Rattle.rows.specs.declared.Outcome.{Outcome}
+use Rattle.rows.specs.declared.Phase.{Phase}
+use Rattle.rows.specs.declared.Phase.the-variants.{Null, Setup, Answered, Cleared}
+use Rattle.rows.specs.declared.RevState.{RevState}
+use Rattle.rows.specs.declared.RevState.the-variants.{Idle, WaitSetup, Active}
+use Rattle.rows.specs.declared.Role.{Role}
+
+-- a line of the listing, without its printing
+record Line : Type 0 where
+  pub number : ℕ
+  pub phase : Phase
+  pub rev : RevState
+  pub caller : ℕ
+  pub called : ℕ
+  pub far : ℕ
+  pub actions : List Action
+
+abbrev line : ℕ → Phase → RevState → ℕ → ℕ → ℕ → List Action → Line
+line n p s a b f w = record { number = n; phase = p; rev = s; caller = a; called = b; far = f; actions = w }
+
+abbrev lineOf : Outcome → Line
+lineOf o =
+    line (o .number) (o .call .stand .phase) (o .call .stand .rev) (o .call .meters .caller) (o .call .meters .called) (o .call .meters .far) (actionsOf o)
+
+-- the lines of a history, from a call
+abbrev run : Call → List Event → List Line
+run c [] = []
+run c (e ∷ es) = lineOf (stepOf c e) ∷ run (stepOf c e .call) es
+
+abbrev room : Number
+room = record { count = 7; value = 5550123 }
+
+abbrev message : ℕ → ℕ → Component → ℕ → Number → Number → ℕ → Message
+message k u x p calling called d = record { kind = k; cause = u; component = x; parts = p; calling = calling; called = called; duration = d }
+
+abbrev plain : ℕ → ℕ → Component → Message
+plain k u x = message k u x noPart absent absent 0
+
+-- L: opening, originating, flags 8; A; 8 seconds; ANM with result; 60 seconds; B; clear
+case-l : run unopenedCall
+    (Opening 0 8 room ∷ Ask 1 room ∷ Time 8 ∷ Received (plain anm 0 (Result callingReqSetup)) ∷ Time 60 ∷ Ask 2 absent ∷ FromAccess 4 0 ∷ [])
+    ≡ line 0 Null Idle 0 0 0 []
+    ∷ line 0 Setup WaitSetup 0 0 0 (Send (plain iam 0 (Invoke callingReqSetup)) ∷ [])
+    ∷ line 0 Setup WaitSetup 0 0 0 []
+    ∷ line 0 Answered Active 0 0 0 (NotifyAccepted ∷ ChargeCalled ∷ [])
+    ∷ line 0 Answered Active 0 60 0 []
+    ∷ line 0 Answered Active 0 60 0 (AccessError alreadyRunning ∷ [])
+    ∷ line 0 Cleared Idle 0 60 0 (Stop ∷ Send (plain rel normalClearing (Absent 0)) ∷ [])
+    ∷ []
+case-l = refl
+
+-- WAIT-SETUP, ANM with no component: cleared, cause 29, all meters 0
+answered-without-word : run unopenedCall (Opening 0 8 room ∷ Ask 1 room ∷ Received (plain anm 0 (Absent 0)) ∷ [])
+    ≡ line 0 Null Idle 0 0 0 []
+    ∷ line 0 Setup WaitSetup 0 0 0 (Send (plain iam 0 (Invoke callingReqSetup)) ∷ [])
+    ∷ line 0 Cleared Idle 0 0 0 (AccessError notAvailable ∷ AccessRel facilityRejected ∷ Send (plain rel facilityRejected (Absent 0)) ∷ [])
+    ∷ []
+answered-without-word = refl
+
+-- an originating call with these flags, answered, 40 s paid by the caller; then an invoke from the called side with these parts; 20 s
+abbrev forty-twenty : ℕ → ℕ → Number → List Line
+forty-twenty flags parts called =
+    run unopenedCall
+    (Opening 0 flags room ∷ Ask 0 room ∷ Received (plain anm 0 (Absent 0)) ∷ Time 40
+    ∷ Received (message fac 0 (Invoke calledRequest) parts absent called 0) ∷ Time 20 ∷ [])
+
+abbrev until-forty : List Line → List Line
+until-forty rest =
+    line 0 Null Idle 0 0 0 [] ∷ line 0 Setup Idle 0 0 0 (Send (plain iam 0 (Absent 0)) ∷ []) ∷ line 0 Answered Idle 0 0 0 (ChargeCalling ∷ [])
+    ∷ line 0 Answered Idle 40 0 0 [] ∷ rest
+
+-- C accepted without transfer: 0, 60, 0
+entire-call : forty-twenty 8 calledPart room
+    ≡ until-forty
+    (line 0 Answered Active 0 40 0 (Send (plain fac 0 (Result calledRequest)) ∷ NotifyAccepted ∷ Stop ∷ ChargeCalled ∷ [])
+    ∷ line 0 Answered Active 0 60 0 []
+    ∷ [])
+entire-call = refl
+
+-- the same with transfer: 0, 0, 60, Duration 40
+entire-call-transferred : forty-twenty 9 transferPart absent
+    ≡ until-forty
+    (line 0 Answered Active 0 0 40
+    (Send (message fac 0 (Result calledRequest) (agreedParts + callingPart + durationPart) room absent 40) ∷ NotifyAccepted ∷ Stop ∷ [])
+    ∷ line 0 Answered Active 0 0 60 []
+    ∷ [])
+entire-call-transferred = refl
+
+-- as B without transfer: 40, 20, 0
+rest-of-call : forty-twenty 8 (partialPart + calledPart) room
+    ≡ until-forty
+    (line 0 Answered Active 40 0 0 (Send (plain fac 0 (Result calledRequest)) ∷ NotifyAccepted ∷ Stop ∷ ChargeCalled ∷ [])
+    ∷ line 0 Answered Active 40 20 0 []
+    ∷ [])
+rest-of-call = refl
+
+-- an answered call whose caller has used up so many seconds
+abbrev talked : ℕ → Call
+talked seconds =
+    record {
+      side = record { role = Role.Originating; flags = flagsOf 8; own = room; calling = absent; called = room };
+      stand = at Answered Idle false false;
+      meters = record { caller = seconds; called = 0; far = 0; payer = Payer.Caller };
+    }
+
+-- time 86,400 accepted; 86,401 gives 3
+day-accepted : run (talked 0) (Time 86400 ∷ []) ≡ line 0 Answered Idle 86400 0 0 [] ∷ []
+day-accepted = refl
+
+day-and-a-second : run (talked 0) (Time 86401 ∷ []) ≡ line 3 Answered Idle 0 0 0 [] ∷ []
+day-and-a-second = refl
+
+-- meters at 31,536,000 and time 0 accepted; time 1 gives 2
+year-accepted : run (talked 31536000) (Time 0 ∷ []) ≡ line 0 Answered Idle 31536000 0 0 [] ∷ []
+year-accepted = refl
+
+year-and-a-second : run (talked 31536000) (Time 1 ∷ []) ≡ line 2 Answered Idle 31536000 0 0 [] ∷ []
+year-and-a-second = refl
+
+-- expiry in IDLE gives 1
+idle-expiry : run (talked 40) (Expiry ∷ []) ≡ line 1 Answered Idle 40 0 0 [] ∷ []
+idle-expiry = refl
