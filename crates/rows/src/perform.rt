@@ -241,7 +241,7 @@ fn applies(number: u8) -> bool
 
 impl Call {
     // A refusal: its number, no actions and the call as it stood.
-    pub fn refused(self, number: u8) -> Outcome
+    pub(crate) fn refused(self, number: u8) -> Outcome
         ensures { λ out. ⌜ out ≡ refusedOf number self ⌝ }
     {
         Outcome {
@@ -296,7 +296,7 @@ impl Call {
         }
     }
 
-    pub fn perform(self, p: Plan, r: Reading) -> Outcome
+    pub(crate) fn perform(self, p: Plan, r: Reading) -> Outcome
         ensures { λ out. ⌜ out ≡ performOf self p r ⌝ }
     {
         if applies(p.number) {

@@ -342,7 +342,7 @@ fn call_asked(interaction: bool, taken: bool, enough: bool) -> Plan
             if enough {
                 sends(
                     Next::ToWaitAnswer,
-                    Change::Keep,
+                    Change::Keep, // charging starts at the answer
                     Register::CalledNumber,
                     Act::SendFac,
                     Component::Result(CALLED_REQUEST),
