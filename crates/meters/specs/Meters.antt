@@ -11,7 +11,7 @@ use Rattle.meters.specs.declared.Change.the-variants.{Keep, CallerPays, 
 use Rattle.meters.specs.declared.Metered.{Metered}
 use Rattle.meters.specs.declared.Metered.the-variants.{Done, NoPayer, TooMuch}
 
--- 01, number 2: what no sum of meters and no Duration may pass
+-- 01, number 2: what no sum of meters, and no Duration that a row uses, may pass
 abbrev pub limit : ℕ
 limit = 31536000
 

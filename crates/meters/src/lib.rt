@@ -3,7 +3,7 @@
 ghost use mathlib.Core.Path.{_≡_};
 ghost use Rattle.meters.specs.Meters.{newOf, withinOf, paidByOf, addsOf, giveOf, entireOf, receivedOf, changeOf};
 
-// 01: no sum of meters, and no Duration, may pass this many seconds.
+// 01, number 2: no sum of meters, and no Duration that a row uses, may pass this many seconds.
 const LIMIT: u64 = 31536000;
 
 // Whose meter runs.

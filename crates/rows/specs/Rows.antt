@@ -1,6 +1,8 @@
--- PLAN: what each row does. A line for each row of the clause, its name in docs/ROWS.md and its sentence beside it:
+-- PLAN: what each row does. A line for each row of the papers, or for those that do the same, with their names in docs/ROWS.md
+-- and their sentences beside it (3.5.2.n: for each n from 1 to 5):
 -- where the call stands next, what happens to the meters, what is registered, the actions in order, the message's component
--- and parts. Stop is given only if a payer charged at this exchange changes.
+-- and parts. Stop is given only if a payer charged at this exchange changes. What a row registers where its own sentence does
+-- not say so (O1, O4, D19, D46) is decision 15 of docs/DECISIONS.md.
 -- Assumes nothing.
 use Prim.Native.Nat.{ℕ, _+_}
 use mathlib.Core.Bool.{Bool, true, false}
@@ -201,10 +203,16 @@ planOf NoRow t = refuses noRow  -- 01, number 1
 planOf Opened t = quiet ToNull Keep FromOpening  -- G1  01, kind 1
 planOf TimeInSetup t = quiet Stay Keep AsHeld  -- G2  01, "only ANSWERED counts"
 planOf TimeCounts t = quiet Stay TimePasses AsHeld  -- G3  01, "one of them runs and takes all seconds"
-planOf ClearedHere t = stops SendRel (Absent 0) normalClearing  -- G4 01; O19, D25, D15; O39, D55: 3.5.2.n.1.1, 3.5.2.n.5.1 last
-planOf Released t = stops AccessRel (Absent 0) (t .cause)  -- G5 01; O18, D24; O40, D56: 3.5.2.n.1.1, 3.5.2.n.5.1 last
-planOf RunningHere t = accessError Stay alreadyRunning  -- O35, O37, D43, D53: 3.5.2.n.1.2, 3.5.2.n.5.2 last
-planOf RunningThere t = farError Stay alreadyRunning  -- O36, O38, D44, D54: 3.5.2.n.1.2, 3.5.2.n.5.2 last
+-- G4 01; O19 3.5.2.5.1.2, second sentence; D15 3.5.2.1.5.2 iii and 01; D25 3.5.2.5.5.2, "wait for basic call confirmation";
+-- O39, D55 3.5.2.n.1.1, 3.5.2.n.5.1 last
+planOf ClearedHere t = stops SendRel (Absent 0) normalClearing
+-- G5 01; O18 3.5.2.5.1.2, second sentence; D24 3.5.2.5.5.2, "wait for basic call confirmation";
+-- O40, D56 3.5.2.n.1.1, 3.5.2.n.5.1 last
+planOf Released t = stops AccessRel (Absent 0) (t .cause)
+-- O37, D53 3.5.2.n.1.2, 3.5.2.n.5.2 last; O35, D43 3.5.2.2.1.2, 3.5.2.2.5.2 last
+planOf RunningHere t = accessError Stay alreadyRunning
+-- O38, D54 3.5.2.n.1.2, 3.5.2.n.5.2 last; O36, D44 3.5.2.2.1.2, 3.5.2.2.5.2 last
+planOf RunningThere t = farError Stay alreadyRunning
 planOf BasicRequest t = basicRequest
 planOf AskSetup t = askSetup (t .interaction) (t .transfer)
 planOf BasicAnswer t = basicAnswer
