@@ -1,4 +1,7 @@
+pub mod Bill
+pub mod BillTried
 pub mod Find
+pub mod History
 pub mod Numbers
 pub mod Perform
 pub mod Read

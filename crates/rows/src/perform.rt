@@ -241,7 +241,7 @@ fn applies(number: u8) -> bool
 
 impl Call {
     // A refusal: its number, no actions and the call as it stood.
-    pub(crate) fn refused(self, number: u8) -> Outcome
+    pub fn refused(self, number: u8) -> Outcome
         ensures { λ out. ⌜ out ≡ refusedOf number self ⌝ }
     {
         Outcome {

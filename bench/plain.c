@@ -1,0 +1,1216 @@
+/*
+ * The listing of an event file in plain C: what the proved listing is compared with, in bytes and in time. It shares no
+ * code with it. Labels such as G3, O27 or D8 are those of the table of rows; numbers given back are in enum answer.
+ *
+ * Nothing may be written if the listing doesn't fit. A record's text has a longest form, so the bytes left of a file
+ * bound the text to come: as soon as this bound says that the buffer is large enough, the file is listed in one run
+ * with no further check. Only while it doesn't are records measured first (see `fits`). That is faster than to measure
+ * every file and then to write it; a buffer of exactly the listing's length is the worst case and takes both runs.
+ */
+#include "plain.h"
+
+#include <string.h>
+
+enum {
+    LONGEST_FILE = 65536,
+    DAY = 86400,       /* the longest time event */
+    YEAR = 31536000,   /* the largest sum of the meters, and the largest Duration */
+    RECORD_TEXT = 192, /* no record's text is longer: the line takes up to 62 bytes, O27's actions 83, 18 and 7 */
+    END_TEXT = sizeof "END 16384\n" - 1,
+    SHORTEST_RECORD = 4
+};
+
+/* ---- The call ---- */
+
+enum answer {
+    APPLIED = 0,
+    NO_ROW = 1,
+    TOO_MUCH = 2,
+    OUT_OF_RANGE = 3,
+    PART_ABSENT = 4,
+    CUT_SHORT = 5,
+    BAD_LENGTH = 6,
+    UNKNOWN_KIND = 7,
+    REFUSED = 8,
+    NOBODY_PAYS = 10
+};
+
+enum role { ORIGINATING, DESTINATION };
+
+enum phase { PHASE_NONE, PHASE_NULL, PHASE_SETUP, PHASE_ANSWERED, PHASE_CLEARED };
+
+enum rev {
+    REV_IDLE,
+    REV_WAIT_SETUP,
+    REV_WAIT_SETUP_CONF,
+    REV_WAIT_CALLED,
+    REV_WAIT_ANSWER,
+    REV_WAIT_ACTIVE,
+    REV_WAIT_ACTIVE_CONF,
+    REV_ACTIVE
+};
+
+enum payer { NOBODY, CALLER, CALLED, FAR };
+
+enum flag { FLAG_TRANSFER = 1, FLAG_OPTION = 2, FLAG_SUBSCRIBED = 4, FLAG_INTERACTION = 8, FLAG_CASE_D = 16 };
+
+/* A user's number: `count` digits, leading zeros among them. */
+struct digits {
+    uint64_t value;
+    uint8_t count;
+};
+
+/* Of the numbers that a call learns only its own is ever listed, so no other is held. */
+struct call {
+    enum role role;
+    enum phase phase;
+    enum rev rev;
+    enum payer payer;
+    uint32_t meter[4]; /* seconds, by payer; nobody's stay 0 */
+    uint8_t flags;
+    uint8_t transfer; /* agreed on: in WAIT-ANSWER, WAIT-SETUP-CONF and WAIT-ACTIVE-CONF */
+    uint8_t entire;   /* case C, not B: in WAIT-CALLED of an answered call */
+    struct digits own;
+};
+
+/* ---- Events ---- */
+
+enum kind { KIND_OPENING = 1, KIND_REQUEST, KIND_MESSAGE, KIND_ACCESS, KIND_EXPIRY, KIND_TIME };
+
+enum request { REQUEST_BASIC, REQUEST_A, REQUEST_B, REQUEST_C };
+
+enum message { IAM = 1, ANM, CON, REL, FAC };
+
+enum component { NO_COMPONENT, INVOKE, RESULT, ERROR, REJECT };
+
+enum operation { OP_SETUP = 1, OP_ACTIVE, OP_CALLED };
+
+enum part {
+    PART_TRANSFER = 1,
+    PART_ACCEPTED = 2,
+    PART_AS_TRANSFER = 4,
+    PART_PARTIAL = 8,
+    PART_CALLING = 16,
+    PART_CALLED = 32,
+    PART_DURATION = 64,
+    PART_UNKNOWN = 128
+};
+
+enum access { ACCESS_ACCEPT = 1, ACCESS_ERROR, ACCESS_REJECT, ACCESS_CLEAR, ACCESS_ANSWER };
+
+struct event {
+    enum kind kind;
+    uint8_t item;      /* the role, request, message or access item */
+    uint8_t cause;     /* of a message */
+    uint8_t component; /* of a message */
+    uint8_t detail;    /* its operation or error number; the error number of an access item */
+    uint8_t bits;      /* the flags of an opening, the parts of a message */
+    uint32_t seconds;  /* of a time event; the Duration of a message */
+    struct digits own; /* of an opening */
+};
+
+static unsigned two_bytes(const uint8_t *at)
+{
+    return at[0] | (unsigned)at[1] << 8;
+}
+
+static uint32_t four_bytes(const uint8_t *at)
+{
+    return at[0] | (uint32_t)at[1] << 8 | (uint32_t)at[2] << 16 | (uint32_t)at[3] << 24;
+}
+
+static struct digits read_digits(const uint8_t *at)
+{
+    return (struct digits){.value = four_bytes(at + 1) | (uint64_t)four_bytes(at + 5) << 32, .count = at[0]};
+}
+
+/* Count 1 to 15, and a value below 10 to the count. */
+static int digits_in_range(struct digits digits)
+{
+    static const uint64_t ten_to[16] = {
+        1u,
+        10u,
+        100u,
+        1000u,
+        10000u,
+        100000u,
+        1000000u,
+        10000000u,
+        100000000u,
+        1000000000u,
+        10000000000u,
+        100000000000u,
+        1000000000000u,
+        10000000000000u,
+        100000000000000u,
+        1000000000000000u,
+    };
+    return digits.count >= 1 && digits.count <= 15 && digits.value < ten_to[digits.count];
+}
+
+/* The bytes that follow the parts: bit 128 adds none. */
+static unsigned parts_length(unsigned parts)
+{
+    return (parts & PART_CALLING ? 9 : 0) + (parts & PART_CALLED ? 9 : 0) + (parts & PART_DURATION ? 4 : 0);
+}
+
+/*
+ * Judges the framing of the record at `at`, where at least one byte is left. The order is 5 (no two length bytes), 6
+ * (the range), 5 (bytes lack), 7, 6 (not the kind's length). `size` is what the record takes in the file.
+ */
+static enum answer read_frame(const uint8_t *at, size_t left, enum kind *kind, size_t *size)
+{
+    unsigned length, right;
+
+    if (left < 2)
+        return CUT_SHORT;
+    length = two_bytes(at);
+    if (length < 2 || length > 29)
+        return BAD_LENGTH;
+    if (left - 2 < length)
+        return CUT_SHORT;
+    switch (two_bytes(at + 2)) {
+    case KIND_OPENING:
+        *kind = KIND_OPENING;
+        right = 13;
+        break;
+    case KIND_REQUEST:
+        *kind = KIND_REQUEST;
+        right = 12;
+        break;
+    case KIND_MESSAGE:
+        *kind = KIND_MESSAGE;
+        right = length < 7 ? 7 : 7 + parts_length(at[8]);
+        break;
+    case KIND_ACCESS:
+        *kind = KIND_ACCESS;
+        right = 4;
+        break;
+    case KIND_EXPIRY:
+        *kind = KIND_EXPIRY;
+        right = 2;
+        break;
+    case KIND_TIME:
+        *kind = KIND_TIME;
+        right = 6;
+        break;
+    default:
+        return UNKNOWN_KIND;
+    }
+    *size = 2 + length;
+    return length == right ? APPLIED : BAD_LENGTH;
+}
+
+static int detail_in_range(unsigned component, unsigned detail)
+{
+    switch (component) {
+    case NO_COMPONENT:
+    case REJECT:
+        return detail == 0;
+    case INVOKE:
+    case RESULT:
+        return detail >= OP_SETUP && detail <= OP_CALLED;
+    case ERROR:
+        return 1;
+    default:
+        return 0;
+    }
+}
+
+static int read_message(const uint8_t *body, struct event *event)
+{
+    const uint8_t *at = body + 5;
+
+    event->item = body[0];
+    event->cause = body[1];
+    event->component = body[2];
+    event->detail = body[3];
+    event->bits = body[4];
+    if (event->item < IAM || event->item > FAC || event->cause > 127)
+        return 0;
+    if (!detail_in_range(event->component, event->detail))
+        return 0;
+    if ((event->bits & PART_UNKNOWN) || (event->bits & (PART_ACCEPTED | PART_AS_TRANSFER)) == PART_AS_TRANSFER)
+        return 0;
+    if (event->bits & PART_CALLING) {
+        if (!digits_in_range(read_digits(at)))
+            return 0;
+        at += 9;
+    }
+    if (event->bits & PART_CALLED) {
+        if (!digits_in_range(read_digits(at)))
+            return 0;
+        at += 9;
+    }
+    if (event->bits & PART_DURATION)
+        event->seconds = four_bytes(at);
+    return 1;
+}
+
+/* Reads the fields of a well-framed record; gives 0 if one is out of its range (number 3). */
+static int read_event(const uint8_t *body, struct event *event)
+{
+    struct digits digits;
+
+    switch (event->kind) {
+    case KIND_OPENING:
+        event->item = body[0];
+        event->bits = body[1];
+        event->own = read_digits(body + 2);
+        return event->item <= DESTINATION && event->bits < 32 && digits_in_range(event->own);
+    case KIND_REQUEST:
+        event->item = body[0];
+        digits = read_digits(body + 1);
+        if (event->item <= REQUEST_A)
+            return digits_in_range(digits);
+        return event->item <= REQUEST_C && digits.count == 0 && digits.value == 0;
+    case KIND_MESSAGE:
+        return read_message(body, event);
+    case KIND_ACCESS:
+        event->item = body[0];
+        event->detail = body[1];
+        return event->item >= ACCESS_ACCEPT && event->item <= ACCESS_ANSWER &&
+               (event->item == ACCESS_ERROR || event->detail == 0);
+    case KIND_EXPIRY:
+        return 1;
+    case KIND_TIME:
+        event->seconds = four_bytes(body);
+        return event->seconds <= DAY;
+    }
+    return 0;
+}
+
+/* ---- Actions ---- */
+
+enum error {
+    NOT_SUBSCRIBED = 4,
+    NOT_AVAILABLE = 7,
+    NOT_ALLOWED = 8,
+    NOT_PROVIDED = 9,
+    IGNORED = 11,
+    RUNNING = 12
+};
+
+enum cause { NORMAL = 16, REJECTED = 29, TIMER = 102 };
+
+enum act { NOTIFY_ACCEPTED, OFFER_SETUP, OFFER_REV, GIVE_ERROR, GIVE_REL, CHARGE_CALLING, CHARGE_CALLED, STOP, SEND };
+
+struct action {
+    uint8_t act;
+    uint8_t value;                             /* an error number, or the cause of a REL */
+    uint8_t message, component, detail, parts; /* of SEND; a number among the parts is the call's own */
+    uint32_t duration;                         /* of SEND, with that part */
+};
+
+struct actions {
+    unsigned count;
+    struct action list[4];
+};
+
+static void act(struct actions *actions, enum act what, unsigned value)
+{
+    actions->list[actions->count++] = (struct action){.act = what, .value = value};
+}
+
+static void send_timed(struct actions *actions, unsigned message, unsigned component, unsigned detail, unsigned parts,
+                       uint32_t duration)
+{
+    actions->list[actions->count++] = (struct action){.act = SEND,
+                                                      .message = message,
+                                                      .component = component,
+                                                      .detail = detail,
+                                                      .parts = parts,
+                                                      .duration = duration};
+}
+
+static void send(struct actions *actions, unsigned message, unsigned component, unsigned detail, unsigned parts)
+{
+    send_timed(actions, message, component, detail, parts, 0);
+}
+
+static void send_rel(struct actions *actions, unsigned cause, unsigned component, unsigned detail)
+{
+    send(actions, REL, component, detail, 0);
+    actions->list[actions->count - 1].value = cause;
+}
+
+/* ---- What the rows share ---- */
+
+/* The error that is passed on: the same if it is listed in the module, else Not Available. */
+static int error_valid(unsigned error)
+{
+    return error >= 4 && error <= 12;
+}
+
+static unsigned error_passed_on(unsigned error)
+{
+    return error_valid(error) ? error : NOT_AVAILABLE;
+}
+
+static int has(const struct call *call, enum flag flag)
+{
+    return (call->flags & flag) != 0;
+}
+
+/* Not subscribed: judged under the subscription option only. */
+static int not_subscribed(const struct call *call)
+{
+    return (call->flags & (FLAG_OPTION | FLAG_SUBSCRIBED)) == FLAG_OPTION;
+}
+
+/* An invoke is taken in transfer mode if it asks for it and this exchange's flag says so. */
+static int takes_transfer(const struct call *call, const struct event *invoke)
+{
+    return has(call, FLAG_TRANSFER) && (invoke->bits & PART_TRANSFER);
+}
+
+/* A result means transfer mode if this exchange asked for it and parts 2 and 4 grant it (4 never comes alone). */
+static int grants_transfer(const struct call *call, const struct event *result)
+{
+    return has(call, FLAG_TRANSFER) && (result->bits & PART_AS_TRANSFER);
+}
+
+/* A change from a payer charged at this exchange gives STOP, at the place of this call. */
+static void set_payer(struct call *call, struct actions *actions, enum payer payer)
+{
+    int charged = call->payer == CALLED || (call->payer == CALLER && call->role == ORIGINATING);
+
+    if (charged && call->payer != payer)
+        act(actions, STOP, 0);
+    call->payer = payer;
+}
+
+static void set_state(struct call *call, enum phase phase, enum rev rev)
+{
+    call->phase = phase;
+    call->rev = rev;
+}
+
+static void clear(struct call *call, struct actions *actions)
+{
+    set_payer(call, actions, NOBODY);
+    set_state(call, PHASE_CLEARED, REV_IDLE);
+}
+
+/* The call clears, and the other exchange is told. */
+static enum answer clear_with_rel(struct call *call, struct actions *actions, unsigned cause, unsigned component,
+                                  unsigned detail)
+{
+    clear(call, actions);
+    send_rel(actions, cause, component, detail);
+    return APPLIED;
+}
+
+/* G5, O18, O40, D24, D56: a REL from the other exchange. */
+static enum answer take_rel(struct call *call, struct actions *actions, const struct event *rel)
+{
+    clear(call, actions);
+    act(actions, GIVE_REL, rel->cause);
+    return APPLIED;
+}
+
+/* O34, D52: a REL while a request of the own user waits. The STOP, if one is due, is last. */
+static enum answer take_rel_waiting(struct call *call, struct actions *actions, const struct event *rel)
+{
+    act(actions, GIVE_ERROR, NOT_PROVIDED);
+    act(actions, GIVE_REL, rel->cause);
+    clear(call, actions);
+    return APPLIED;
+}
+
+/* The own user's request fails and the call goes on, in the state it is in. */
+static enum answer give_error(struct actions *actions, unsigned error)
+{
+    act(actions, GIVE_ERROR, error);
+    return APPLIED;
+}
+
+/* The other exchange's request fails and the call goes on, in the state it is in. */
+static enum answer send_error(struct actions *actions, unsigned error)
+{
+    send(actions, FAC, ERROR, error, 0);
+    return APPLIED;
+}
+
+/* O35, O37, D43, D53: own request A, B or C where REV is already running. */
+static enum answer request_running(struct actions *actions, const struct event *request)
+{
+    return request->item == REQUEST_BASIC ? NO_ROW : give_error(actions, RUNNING);
+}
+
+/* ---- The rows of an originating exchange ---- */
+
+static enum answer originating_request(struct call *call, struct actions *actions, const struct event *event)
+{
+    unsigned parts = has(call, FLAG_TRANSFER) ? PART_TRANSFER | PART_CALLING : 0;
+
+    switch (call->rev) {
+    case REV_WAIT_ACTIVE: /* O35 */
+    case REV_ACTIVE:      /* O37 */
+        return request_running(actions, event);
+    case REV_IDLE:
+        break;
+    default:
+        return NO_ROW;
+    }
+    if (call->phase == PHASE_NULL && event->item == REQUEST_BASIC) { /* O1 */
+        send(actions, IAM, NO_COMPONENT, 0, 0);
+        set_state(call, PHASE_SETUP, REV_IDLE);
+        return APPLIED;
+    }
+    if (call->phase == PHASE_NULL && event->item == REQUEST_A) {
+        if (!has(call, FLAG_INTERACTION)) { /* O2: no IAM has passed, so no REL */
+            act(actions, GIVE_ERROR, NOT_ALLOWED);
+            act(actions, GIVE_REL, REJECTED);
+            clear(call, actions);
+            return APPLIED;
+        }
+        send(actions, IAM, INVOKE, OP_SETUP, parts); /* O3, O4 */
+        set_state(call, PHASE_SETUP, REV_WAIT_SETUP);
+        return APPLIED;
+    }
+    if (call->phase == PHASE_ANSWERED && event->item == REQUEST_B) {
+        if (!has(call, FLAG_INTERACTION)) /* O20 */
+            return give_error(actions, NOT_ALLOWED);
+        send(actions, FAC, INVOKE, OP_ACTIVE, parts); /* O21, O22 */
+        set_state(call, PHASE_ANSWERED, REV_WAIT_ACTIVE);
+        return APPLIED;
+    }
+    return NO_ROW;
+}
+
+/* O9, O10, O16, O17, O28, O29: REV is accepted, and from now on another pays. */
+static enum answer accepted(struct call *call, struct actions *actions, int transfer)
+{
+    act(actions, NOTIFY_ACCEPTED, 0);
+    set_payer(call, actions, transfer ? FAR : CALLED);
+    if (!transfer)
+        act(actions, CHARGE_CALLED, 0);
+    set_state(call, PHASE_ANSWERED, REV_ACTIVE);
+    return APPLIED;
+}
+
+/* Case A fails in WAIT-SETUP. */
+static void setup_failed(struct call *call, struct actions *actions)
+{
+    act(actions, GIVE_ERROR, NOT_AVAILABLE);
+    act(actions, GIVE_REL, REJECTED);
+    clear(call, actions);
+}
+
+/* O14, O15: the other exchange doesn't know yet. */
+static enum answer setup_failed_here(struct call *call, struct actions *actions)
+{
+    setup_failed(call, actions);
+    send_rel(actions, REJECTED, NO_COMPONENT, 0);
+    return APPLIED;
+}
+
+/* ANM or CON. */
+static enum answer originating_answer(struct call *call, struct actions *actions, const struct event *event)
+{
+    switch (call->rev) {
+    case REV_IDLE:
+        if (call->phase != PHASE_SETUP || event->component != NO_COMPONENT)
+            return NO_ROW;
+        set_payer(call, actions, CALLER); /* O5 */
+        act(actions, CHARGE_CALLING, 0);
+        set_state(call, PHASE_ANSWERED, REV_IDLE);
+        return APPLIED;
+    case REV_WAIT_SETUP:
+        if (event->component == NO_COMPONENT) /* O14 */
+            return setup_failed_here(call, actions);
+        if (event->component != RESULT || event->detail != OP_SETUP)
+            return NO_ROW;
+        return accepted(call, actions, grants_transfer(call, event)); /* O9, O10 */
+    case REV_WAIT_ANSWER:
+        if (event->component != NO_COMPONENT)
+            return NO_ROW;
+        return accepted(call, actions, call->transfer); /* O16, O17 */
+    default:
+        return NO_ROW;
+    }
+}
+
+static enum answer originating_rel(struct call *call, struct actions *actions, const struct event *event)
+{
+    switch (call->rev) {
+    case REV_WAIT_SETUP:
+        switch (event->component) {
+        case ERROR:
+            if (error_valid(event->detail)) { /* O11 */
+                act(actions, GIVE_ERROR, event->detail);
+                return take_rel(call, actions, event);
+            }
+            setup_failed(call, actions); /* O12 */
+            return APPLIED;
+        case REJECT:
+        case NO_COMPONENT:
+            setup_failed(call, actions); /* O13 */
+            return APPLIED;
+        default:
+            return take_rel(call, actions, event); /* G5 */
+        }
+    case REV_WAIT_ACTIVE: /* O34 */
+        return take_rel_waiting(call, actions, event);
+    default: /* G5, O18, O40 */
+        return call->phase == PHASE_NULL ? NO_ROW : take_rel(call, actions, event);
+    }
+}
+
+/* Invoke CALLED at a call without REV: case D before the answer, B (partial call) or C after it. */
+static enum answer called_invoke(struct call *call, struct actions *actions, const struct event *invoke)
+{
+    int transfer = takes_transfer(call, invoke);
+    int entire = !(invoke->bits & PART_PARTIAL);
+    unsigned parts = transfer ? PART_ACCEPTED | PART_AS_TRANSFER | PART_CALLING : 0;
+
+    if (!has(call, FLAG_INTERACTION)) /* O6, O23 */
+        return send_error(actions, NOT_ALLOWED);
+    if (!(invoke->bits & (PART_TRANSFER | PART_CALLED))) /* O7, O24, O26 need the called number, or part 1 */
+        return PART_ABSENT;
+    if (call->phase == PHASE_SETUP) { /* O7, O8: notice and charging at the answer only */
+        send(actions, FAC, RESULT, OP_CALLED, parts);
+        call->transfer = transfer;
+        set_state(call, PHASE_SETUP, REV_WAIT_ANSWER);
+        return APPLIED;
+    }
+    if (transfer && entire) /* O27: the Duration is what the meter has before it is emptied */
+        parts |= PART_DURATION;
+    send_timed(actions, FAC, RESULT, OP_CALLED, parts, call->meter[CALLER]);
+    if (entire) { /* O26, O27 */
+        call->meter[transfer ? FAR : CALLED] += call->meter[CALLER];
+        call->meter[CALLER] = 0;
+    }
+    return accepted(call, actions, transfer); /* O24 to O27 */
+}
+
+static enum answer originating_fac(struct call *call, struct actions *actions, const struct event *event)
+{
+    switch (call->rev) {
+    case REV_IDLE:
+        if (call->phase == PHASE_NULL || event->component != INVOKE || event->detail != OP_CALLED)
+            return NO_ROW;
+        return called_invoke(call, actions, event); /* O6 to O8, O23 to O27 */
+    case REV_WAIT_ACTIVE:
+        switch (event->component) {
+        case INVOKE: /* O36 */
+            return send_error(actions, RUNNING);
+        case RESULT: /* O28, O29 */
+            if (event->detail != OP_ACTIVE)
+                return NO_ROW;
+            return accepted(call, actions, grants_transfer(call, event));
+        case ERROR: /* O30, O31 */
+            call->rev = REV_IDLE;
+            return give_error(actions, error_passed_on(event->detail));
+        default: /* O32 */
+            call->rev = REV_IDLE;
+            return give_error(actions, NOT_AVAILABLE);
+        }
+    case REV_ACTIVE: /* O38 */
+        return event->component == INVOKE ? send_error(actions, RUNNING) : NO_ROW;
+    default:
+        return NO_ROW;
+    }
+}
+
+static enum answer originating_expiry(struct call *call, struct actions *actions)
+{
+    switch (call->rev) {
+    case REV_WAIT_SETUP: /* O15 */
+        return setup_failed_here(call, actions);
+    case REV_WAIT_ACTIVE: /* O33 */
+        call->rev = REV_IDLE;
+        return give_error(actions, NOT_AVAILABLE);
+    default:
+        return NO_ROW;
+    }
+}
+
+static enum answer originating(struct call *call, struct actions *actions, const struct event *event)
+{
+    switch (event->kind) {
+    case KIND_REQUEST:
+        return originating_request(call, actions, event);
+    case KIND_MESSAGE:
+        switch (event->item) {
+        case ANM:
+        case CON:
+            return originating_answer(call, actions, event);
+        case REL:
+            return originating_rel(call, actions, event);
+        case FAC:
+            return originating_fac(call, actions, event);
+        default:
+            return NO_ROW;
+        }
+    case KIND_ACCESS: /* G4, O19, O39 */
+        if (event->item != ACCESS_CLEAR || call->phase == PHASE_NULL)
+            return NO_ROW;
+        return clear_with_rel(call, actions, NORMAL, NO_COMPONENT, 0);
+    case KIND_EXPIRY:
+        return originating_expiry(call, actions);
+    default:
+        return NO_ROW;
+    }
+}
+
+/* ---- The rows of a destination exchange ---- */
+
+/* D3, D4, D32 to D35: invoke CALLED to the originating exchange. */
+static enum answer ask_origin(struct call *call, struct actions *actions, unsigned partial)
+{
+    send(actions, FAC, INVOKE, OP_CALLED, partial | (has(call, FLAG_TRANSFER) ? PART_TRANSFER : PART_CALLED));
+    call->entire = !partial;
+    call->rev = REV_WAIT_CALLED;
+    return APPLIED;
+}
+
+/* D7, D8, D28, D29: an invoke SETUP or ACTIVE is put to the user. */
+static enum answer ask_user(struct call *call, struct actions *actions, const struct event *invoke, enum rev waiting)
+{
+    int transfer = takes_transfer(call, invoke);
+
+    if (transfer && !(invoke->bits & PART_CALLING)) /* D8, D29 */
+        return PART_ABSENT;
+    act(actions, OFFER_REV, 0);
+    call->transfer = transfer;
+    call->rev = waiting;
+    return APPLIED;
+}
+
+/* D10, D11, D22, D23, D36, D37: REV becomes active; with transfer this exchange charges, before it answers. */
+static enum answer activate(struct call *call, struct actions *actions, unsigned message, unsigned component,
+                            unsigned operation)
+{
+    unsigned parts = call->transfer ? PART_ACCEPTED | PART_AS_TRANSFER : PART_CALLED;
+
+    if (call->transfer) {
+        set_payer(call, actions, CALLED);
+        act(actions, CHARGE_CALLED, 0);
+    } else if (call->phase == PHASE_SETUP) {
+        set_payer(call, actions, FAR);
+    }
+    send(actions, message, component, operation, component == RESULT ? parts : 0);
+    set_state(call, PHASE_ANSWERED, REV_ACTIVE);
+    return APPLIED;
+}
+
+static enum answer destination_request(struct call *call, struct actions *actions, const struct event *event)
+{
+    switch (call->rev) {
+    case REV_WAIT_ACTIVE_CONF: /* D43 */
+    case REV_ACTIVE:           /* D53 */
+        return request_running(actions, event);
+    case REV_IDLE:
+        if (call->phase != PHASE_ANSWERED || event->item < REQUEST_B)
+            return NO_ROW;
+        if (not_subscribed(call)) /* D30 */
+            return give_error(actions, NOT_SUBSCRIBED);
+        if (!has(call, FLAG_INTERACTION)) /* D31 */
+            return give_error(actions, NOT_ALLOWED);
+        return ask_origin(call, actions, event->item == REQUEST_B ? PART_PARTIAL : 0); /* D32 to D35 */
+    default:
+        return NO_ROW;
+    }
+}
+
+static enum answer destination_iam(struct call *call, struct actions *actions, const struct event *event)
+{
+    enum answer answer;
+
+    if (call->phase != PHASE_NULL)
+        return NO_ROW;
+    if (event->component == NO_COMPONENT) {
+        if (!has(call, FLAG_CASE_D)) { /* D1 */
+            act(actions, OFFER_SETUP, 0);
+            set_state(call, PHASE_SETUP, REV_IDLE);
+            return APPLIED;
+        }
+        if (!has(call, FLAG_INTERACTION)) /* D2 */
+            return clear_with_rel(call, actions, REJECTED, NO_COMPONENT, 0);
+        call->phase = PHASE_SETUP;
+        return ask_origin(call, actions, 0); /* D3, D4 */
+    }
+    if (event->component != INVOKE || event->detail != OP_SETUP)
+        return NO_ROW;
+    if (not_subscribed(call)) /* D5 */
+        return clear_with_rel(call, actions, REJECTED, ERROR, NOT_SUBSCRIBED);
+    if (!has(call, FLAG_INTERACTION)) /* D6 */
+        return clear_with_rel(call, actions, REJECTED, ERROR, NOT_ALLOWED);
+    answer = ask_user(call, actions, event, REV_WAIT_SETUP_CONF); /* D7, D8 */
+    if (answer == APPLIED)
+        call->phase = PHASE_SETUP;
+    return answer;
+}
+
+/* WAIT-CALLED before the answer: case D. */
+static enum answer called_response_d(struct call *call, struct actions *actions, const struct event *event)
+{
+    int transfer = grants_transfer(call, event);
+
+    switch (event->component) {
+    case RESULT:
+        if (event->detail != OP_CALLED)
+            return NO_ROW;
+        if (transfer && !(event->bits & PART_CALLING)) /* D19 */
+            return PART_ABSENT;
+        if (!transfer) /* D18 */
+            act(actions, NOTIFY_ACCEPTED, 0);
+        call->transfer = transfer;
+        set_state(call, PHASE_SETUP, REV_WAIT_ANSWER);
+        return APPLIED;
+    case ERROR:
+    case REJECT: /* D20 */
+        return clear_with_rel(call, actions, REJECTED, NO_COMPONENT, 0);
+    default:
+        return NO_ROW;
+    }
+}
+
+/* WAIT-CALLED after the answer: case B or C. */
+static enum answer called_response(struct call *call, struct actions *actions, const struct event *event)
+{
+    switch (event->component) {
+    case RESULT:
+        if (event->detail != OP_CALLED)
+            return NO_ROW;
+        if (grants_transfer(call, event)) { /* D46, D47 */
+            unsigned needed = call->entire ? PART_CALLING | PART_DURATION : PART_CALLING;
+
+            if ((event->bits & needed) != needed)
+                return PART_ABSENT;
+            if (call->entire) { /* D47 */
+                if (event->seconds > YEAR)
+                    return TOO_MUCH;
+                call->meter[CALLED] = event->seconds;
+                call->meter[FAR] = 0;
+            }
+            set_payer(call, actions, CALLED);
+            act(actions, CHARGE_CALLED, 0);
+        }
+        act(actions, NOTIFY_ACCEPTED, 0); /* D45 to D47 */
+        set_state(call, PHASE_ANSWERED, REV_ACTIVE);
+        return APPLIED;
+    case ERROR: /* D48, D49 */
+        call->rev = REV_IDLE;
+        return give_error(actions, error_passed_on(event->detail));
+    case REJECT: /* D50 */
+        call->rev = REV_IDLE;
+        return give_error(actions, NOT_AVAILABLE);
+    default:
+        return NO_ROW;
+    }
+}
+
+static enum answer destination_fac(struct call *call, struct actions *actions, const struct event *event)
+{
+    switch (call->rev) {
+    case REV_IDLE:
+        if (call->phase != PHASE_ANSWERED || event->component != INVOKE || event->detail != OP_ACTIVE)
+            return NO_ROW;
+        if (not_subscribed(call)) /* D26 */
+            return send_error(actions, NOT_SUBSCRIBED);
+        if (!has(call, FLAG_INTERACTION)) /* D27 */
+            return send_error(actions, NOT_ALLOWED);
+        return ask_user(call, actions, event, REV_WAIT_ACTIVE_CONF); /* D28, D29 */
+    case REV_WAIT_CALLED:
+        if (call->phase == PHASE_SETUP) /* D18 to D20 */
+            return called_response_d(call, actions, event);
+        return called_response(call, actions, event); /* D45 to D50 */
+    case REV_WAIT_ACTIVE_CONF:                        /* D44 */
+    case REV_ACTIVE:                                  /* D54 */
+        return event->component == INVOKE ? send_error(actions, RUNNING) : NO_ROW;
+    default:
+        return NO_ROW;
+    }
+}
+
+/* The user is asked in WAIT-SETUP-CONF: case A. */
+static enum answer user_response_setup(struct call *call, struct actions *actions, const struct event *event)
+{
+    switch (event->item) {
+    case ACCESS_ACCEPT: /* D10, D11 */
+        return activate(call, actions, ANM, RESULT, OP_SETUP);
+    case ACCESS_ERROR: /* D12, D13: the item has no cause, so 16 with an error that is passed on */
+        return clear_with_rel(call, actions, error_valid(event->detail) ? NORMAL : REJECTED, ERROR,
+                              error_passed_on(event->detail));
+    case ACCESS_REJECT: /* D14 */
+        return clear_with_rel(call, actions, REJECTED, ERROR, NOT_AVAILABLE);
+    case ACCESS_CLEAR: /* D15 */
+        return clear_with_rel(call, actions, NORMAL, NO_COMPONENT, 0);
+    default: /* D16, answered without REV */
+        return clear_with_rel(call, actions, REJECTED, ERROR, IGNORED);
+    }
+}
+
+/* The user is asked in WAIT-ACTIVE-CONF: case B. */
+static enum answer user_response_active(struct call *call, struct actions *actions, const struct event *event)
+{
+    switch (event->item) {
+    case ACCESS_ACCEPT: /* D36, D37 */
+        return activate(call, actions, FAC, RESULT, OP_ACTIVE);
+    case ACCESS_ERROR: /* D38, D39 */
+        call->rev = REV_IDLE;
+        return send_error(actions, error_passed_on(event->detail));
+    case ACCESS_REJECT: /* D40 */
+        call->rev = REV_IDLE;
+        return send_error(actions, NOT_AVAILABLE);
+    case ACCESS_CLEAR: /* D42 */
+        return clear_with_rel(call, actions, NORMAL, ERROR, NOT_PROVIDED);
+    default:
+        return NO_ROW;
+    }
+}
+
+static enum answer destination_access(struct call *call, struct actions *actions, const struct event *event)
+{
+    if (call->phase == PHASE_NULL)
+        return NO_ROW;
+    if (call->rev == REV_WAIT_SETUP_CONF)
+        return user_response_setup(call, actions, event);
+    if (call->rev == REV_WAIT_ACTIVE_CONF)
+        return user_response_active(call, actions, event);
+    switch (event->item) {
+    case ACCESS_CLEAR: /* G4, D25, D55 */
+        return clear_with_rel(call, actions, NORMAL, NO_COMPONENT, 0);
+    case ACCESS_ANSWER:
+        if (call->rev == REV_WAIT_ANSWER) /* D22, D23 */
+            return activate(call, actions, ANM, NO_COMPONENT, 0);
+        if (call->phase != PHASE_SETUP || call->rev != REV_IDLE)
+            return NO_ROW;
+        set_payer(call, actions, FAR); /* D9 */
+        send(actions, ANM, NO_COMPONENT, 0, 0);
+        set_state(call, PHASE_ANSWERED, REV_IDLE);
+        return APPLIED;
+    default:
+        return NO_ROW;
+    }
+}
+
+static enum answer destination_expiry(struct call *call, struct actions *actions)
+{
+    switch (call->rev) {
+    case REV_WAIT_SETUP_CONF: /* D17 */
+        return clear_with_rel(call, actions, TIMER, ERROR, NOT_PROVIDED);
+    case REV_WAIT_CALLED:
+        if (call->phase == PHASE_SETUP) /* D21 */
+            return clear_with_rel(call, actions, REJECTED, NO_COMPONENT, 0);
+        call->rev = REV_IDLE; /* D51 */
+        return give_error(actions, NOT_AVAILABLE);
+    case REV_WAIT_ACTIVE_CONF: /* D41 */
+        call->rev = REV_IDLE;
+        return send_error(actions, IGNORED);
+    default:
+        return NO_ROW;
+    }
+}
+
+static enum answer destination(struct call *call, struct actions *actions, const struct event *event)
+{
+    switch (event->kind) {
+    case KIND_REQUEST:
+        return destination_request(call, actions, event);
+    case KIND_MESSAGE:
+        switch (event->item) {
+        case IAM:
+            return destination_iam(call, actions, event);
+        case REL:
+            if (call->phase == PHASE_NULL)
+                return NO_ROW;
+            if (call->phase == PHASE_ANSWERED && call->rev == REV_WAIT_CALLED) /* D52 */
+                return take_rel_waiting(call, actions, event);
+            return take_rel(call, actions, event); /* G5, D24, D56 */
+        case FAC:
+            return destination_fac(call, actions, event);
+        default:
+            return NO_ROW;
+        }
+    case KIND_ACCESS:
+        return destination_access(call, actions, event);
+    case KIND_EXPIRY:
+        return destination_expiry(call, actions);
+    default:
+        return NO_ROW;
+    }
+}
+
+/* ---- The rows of both ---- */
+
+static enum answer pass(struct call *call, uint32_t seconds)
+{
+    switch (call->phase) {
+    case PHASE_SETUP: /* G2 */
+        return APPLIED;
+    case PHASE_ANSWERED: /* G3; the sum is at most a year, so it can't overflow */
+        if (call->payer == NOBODY)
+            return NOBODY_PAYS;
+        if (call->meter[CALLER] + call->meter[CALLED] + call->meter[FAR] + seconds > YEAR)
+            return TOO_MUCH;
+        call->meter[call->payer] += seconds;
+        return APPLIED;
+    default:
+        return NO_ROW;
+    }
+}
+
+/* Where the answer isn't APPLIED the call is as before and there are no actions. */
+static enum answer take(struct call *call, struct actions *actions, const struct event *event)
+{
+    if (call->phase == PHASE_NONE) {
+        if (event->kind != KIND_OPENING)
+            return NO_ROW;
+        call->role = event->item; /* G1 */
+        call->flags = event->bits;
+        call->own = event->own;
+        call->phase = PHASE_NULL;
+        return APPLIED;
+    }
+    if (call->phase == PHASE_CLEARED)
+        return NO_ROW;
+    if (event->kind == KIND_TIME)
+        return pass(call, event->seconds);
+    return call->role == ORIGINATING ? originating(call, actions, event) : destination(call, actions, event);
+}
+
+/* ---- Text ---- */
+
+/* Writes a string literal and gives the place after it. */
+#define PUT(to, text) ((uint8_t *)memcpy((to), (text), sizeof(text) - 1) + (sizeof(text) - 1))
+
+/* Writes the last `count` digits of a value. */
+static uint8_t *put_digits(uint8_t *to, uint64_t value, unsigned count)
+{
+    for (unsigned place = count; place > 0; value /= 10)
+        to[--place] = '0' + value % 10;
+    return to + count;
+}
+
+static uint8_t *put_number(uint8_t *to, uint32_t value)
+{
+    unsigned count = 1;
+
+    for (uint64_t limit = 10; value >= limit; limit *= 10)
+        count++;
+    return put_digits(to, value, count);
+}
+
+static uint8_t *put_phase(uint8_t *to, enum phase phase)
+{
+    switch (phase) {
+    case PHASE_NONE:
+        return PUT(to, " NONE");
+    case PHASE_NULL:
+        return PUT(to, " NULL");
+    case PHASE_SETUP:
+        return PUT(to, " SETUP");
+    case PHASE_ANSWERED:
+        return PUT(to, " ANSWERED");
+    case PHASE_CLEARED:
+        return PUT(to, " CLEARED");
+    }
+    return to;
+}
+
+static uint8_t *put_rev(uint8_t *to, enum rev rev)
+{
+    switch (rev) {
+    case REV_IDLE:
+        return PUT(to, " IDLE ");
+    case REV_WAIT_SETUP:
+        return PUT(to, " WAIT-SETUP ");
+    case REV_WAIT_SETUP_CONF:
+        return PUT(to, " WAIT-SETUP-CONF ");
+    case REV_WAIT_CALLED:
+        return PUT(to, " WAIT-CALLED ");
+    case REV_WAIT_ANSWER:
+        return PUT(to, " WAIT-ANSWER ");
+    case REV_WAIT_ACTIVE:
+        return PUT(to, " WAIT-ACTIVE ");
+    case REV_WAIT_ACTIVE_CONF:
+        return PUT(to, " WAIT-ACTIVE-CONF ");
+    case REV_ACTIVE:
+        return PUT(to, " ACTIVE ");
+    }
+    return to;
+}
+
+static uint8_t *put_operation(uint8_t *to, unsigned operation)
+{
+    switch (operation) {
+    case OP_SETUP:
+        return PUT(to, " SETUP");
+    case OP_ACTIVE:
+        return PUT(to, " ACTIVE");
+    default:
+        return PUT(to, " CALLED");
+    }
+}
+
+static uint8_t *put_message(uint8_t *to, const struct action *action, const struct call *call)
+{
+    switch (action->message) {
+    case IAM:
+        to = PUT(to, "> IAM");
+        break;
+    case ANM:
+        to = PUT(to, "> ANM");
+        break;
+    case REL:
+        to = put_number(PUT(to, "> REL "), action->value);
+        break;
+    default: /* no row sends a CON */
+        to = PUT(to, "> FAC");
+        break;
+    }
+    switch (action->component) {
+    case INVOKE:
+        to = put_operation(PUT(to, " INVOKE"), action->detail);
+        break;
+    case RESULT:
+        to = put_operation(PUT(to, " RESULT"), action->detail);
+        break;
+    case ERROR:
+        to = put_number(PUT(to, " ERROR "), action->detail);
+        break;
+    default: /* nor a reject */
+        break;
+    }
+    if (action->parts & PART_TRANSFER)
+        to = PUT(to, " TRANSFER");
+    if (action->parts & PART_ACCEPTED)
+        to = PUT(to, " ACCEPTED");
+    if (action->parts & PART_AS_TRANSFER)
+        to = PUT(to, " AS-TRANSFER");
+    if (action->parts & PART_PARTIAL)
+        to = PUT(to, " PARTIAL");
+    if (action->parts & PART_CALLING)
+        to = put_digits(PUT(to, " CALLING "), call->own.value, call->own.count);
+    if (action->parts & PART_CALLED)
+        to = put_digits(PUT(to, " CALLED "), call->own.value, call->own.count);
+    if (action->parts & PART_DURATION)
+        to = put_number(PUT(to, " DURATION "), action->duration);
+    return PUT(to, "\n");
+}
+
+static uint8_t *put_action(uint8_t *to, const struct action *action, const struct call *call)
+{
+    switch ((enum act)action->act) {
+    case NOTIFY_ACCEPTED:
+        return PUT(to, "> NOTIFY ACCEPTED\n");
+    case OFFER_SETUP:
+        return PUT(to, "> ACCESS SETUP\n");
+    case OFFER_REV:
+        return PUT(to, "> ACCESS ASK\n");
+    case GIVE_ERROR:
+        return PUT(put_number(PUT(to, "> ACCESS ERROR "), action->value), "\n");
+    case GIVE_REL:
+        return PUT(put_number(PUT(to, "> ACCESS REL "), action->value), "\n");
+    case CHARGE_CALLING:
+        return PUT(to, "> CHARGE CALLING\n");
+    case CHARGE_CALLED:
+        return PUT(to, "> CHARGE CALLED\n");
+    case STOP:
+        return PUT(to, "> STOP\n");
+    case SEND:
+        return put_message(to, action, call);
+    }
+    return to;
+}
+
+static uint8_t *put_line(uint8_t *to, unsigned ordinal, enum answer answer, const struct call *call)
+{
+    to = put_number(to, ordinal);
+    *to++ = ' ';
+    to = put_number(to, answer);
+    to = put_phase(to, call->phase);
+    to = put_rev(to, call->rev);
+    to = put_number(to, call->meter[CALLER]);
+    *to++ = ' ';
+    to = put_number(to, call->meter[CALLED]);
+    *to++ = ' ';
+    to = put_number(to, call->meter[FAR]);
+    *to++ = '\n';
+    return to;
+}
+
+/* ---- The listing ---- */
+
+/* A file being read: the bytes left, the call so far, the records shown. */
+struct history {
+    const uint8_t *at, *end;
+    struct call call;
+    unsigned shown;
+};
+
+static struct history begin(const uint8_t *file, size_t file_len)
+{
+    return (struct history){.at = file, .end = file + file_len};
+}
+
+/* Takes the next record and writes its line and actions. Reading stops after 5, 6 and 7. */
+static uint8_t *put_record(uint8_t *to, struct history *history)
+{
+    struct event event;
+    struct actions actions;
+    size_t size;
+    enum answer answer = read_frame(history->at, (size_t)(history->end - history->at), &event.kind, &size);
+
+    actions.count = 0;
+    if (answer != APPLIED) {
+        history->at = history->end;
+    } else {
+        if (read_event(history->at + 4, &event))
+            answer = take(&history->call, &actions, &event);
+        else
+            answer = OUT_OF_RANGE;
+        history->at += size;
+    }
+    to = put_line(to, ++history->shown, answer, &history->call);
+    for (unsigned i = 0; i < actions.count; i++)
+        to = put_action(to, &actions.list[i], &history->call);
+    return to;
+}
+
+static uint8_t *put_end(uint8_t *to, const struct history *history)
+{
+    return PUT(put_number(PUT(to, "END "), history->shown), "\n");
+}
+
+/*
+ * Whether the listing fits into `room` bytes. Each record is put into a scratch place for its length, but only until
+ * the rest fits even if it is all of the shortest records with the longest text.
+ */
+static int fits(const uint8_t *file, size_t file_len, size_t room)
+{
+    struct history history = begin(file, file_len);
+    uint8_t scratch[RECORD_TEXT];
+    size_t length = sizeof "REV 1\n" - 1;
+
+    while (history.at != history.end) {
+        size_t left = (size_t)(history.end - history.at);
+        size_t records = (left + SHORTEST_RECORD - 1) / SHORTEST_RECORD;
+
+        if (length + records * RECORD_TEXT + END_TEXT <= room)
+            return 1;
+        if (length > room)
+            return 0;
+        length += (size_t)(put_record(scratch, &history) - scratch);
+    }
+    length += (size_t)(put_end(scratch, &history) - scratch);
+    return length <= room;
+}
+
+size_t plain_listing(const uint8_t *file, size_t file_len, uint8_t *out, size_t out_len)
+{
+    struct history history;
+    uint8_t *to;
+
+    if (file_len > LONGEST_FILE || !fits(file, file_len, out_len))
+        return REFUSED;
+    history = begin(file, file_len);
+    to = PUT(out, "REV 1\n");
+    while (history.at != history.end)
+        to = put_record(to, &history);
+    return (size_t)(put_end(to, &history) - out);
+}

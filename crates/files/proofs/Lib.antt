@@ -1,0 +1,5 @@
+pub mod Fits
+pub mod Records
+pub mod Texts
+pub mod Turns
+pub mod Worked

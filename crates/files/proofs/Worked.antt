@@ -1,0 +1,60 @@
+-- Worked files: the definition of the listing computes them.
+-- Assumes nothing.
+use mathlib.Core.Path.{_≡_, refl}
+use mathlib.Core.List.{List, [], _∷_, _++_}
+use Prim.Native.Nat.{ℕ}
+use Rattle.text.specs.Choose.{ifLt, ifLe, ifEq, ifSo}
+use Rattle.text.specs.Text.{ascii, lastDigits, decimal, decimalBy, numbered}
+use Rattle.files.specs.Bodies.{openingAt, askAt, componentOf, numberIf, durationIf, messageAt, accessAt, eventAt, readAt}
+use Rattle.files.specs.Bytes.{le2At, le4At, le8At, numberAt}
+use Rattle.files.specs.Frames.{lengthOf, frameOf, frameAt}
+use Rattle.files.specs.Lines.{standText, metersText, lineText, numberedLine, sentText, actionsText, recordText}
+use Rattle.files.specs.Listing.{startPlace, placeAfter, textOf, nextOf, restOf, recordsOf, listingOf}
+use Rattle.files.specs.Messages.{nameText, causeText, operationText, withOperation, textIf, withDigits, partsText, valuesText, messageText}
+
+-- 01: "Empty input gives `REV 1` and `END 0`"
+empty : listingOf [] ≡ ascii "REV 1\nEND 0\n"
+unfolding listingOf recordsOf restOf startPlace placeAfter textOf nextOf recordText actionsText sentText numberedLine lineText metersText standText messageText valuesText partsText withDigits textIf withOperation operationText causeText nameText readAt eventAt accessAt messageAt durationIf numberIf componentOf askAt openingAt frameAt frameOf lengthOf numberAt le8At le4At le2At numbered decimal decimalBy lastDigits ifLt ifLe ifEq ifSo
+empty = refl
+
+-- 01: "a lone byte gives 5"
+lone-byte : listingOf (6 ∷ []) ≡ ascii "REV 1\n1 5 NONE IDLE 0 0 0\nEND 1\n"
+unfolding listingOf recordsOf restOf startPlace placeAfter textOf nextOf recordText actionsText sentText numberedLine lineText metersText standText messageText valuesText partsText withDigits textIf withOperation operationText causeText nameText readAt eventAt accessAt messageAt durationIf numberIf componentOf askAt openingAt frameAt frameOf lengthOf numberAt le8At le4At le2At numbered decimal decimalBy lastDigits ifLt ifLe ifEq ifSo
+lone-byte = refl
+
+-- 01, case L
+case-l : List ℕ
+case-l =
+    -- opening, originating, flags 8
+    13 ∷ 0 ∷ 1 ∷ 0 ∷ 0 ∷ 8 ∷ 7 ∷ 20 ∷ 176 ∷ 84 ∷ 0 ∷ 0 ∷ 0 ∷ 0 ∷ 0 ∷
+    -- A
+    12 ∷ 0 ∷ 2 ∷ 0 ∷ 1 ∷ 7 ∷ 43 ∷ 176 ∷ 84 ∷ 0 ∷ 0 ∷ 0 ∷ 0 ∷ 0 ∷
+    -- 8 seconds
+    6 ∷ 0 ∷ 6 ∷ 0 ∷ 8 ∷ 0 ∷ 0 ∷ 0 ∷
+    -- ANM with result
+    7 ∷ 0 ∷ 3 ∷ 0 ∷ 2 ∷ 0 ∷ 2 ∷ 1 ∷ 0 ∷
+    -- 60 seconds
+    6 ∷ 0 ∷ 6 ∷ 0 ∷ 60 ∷ 0 ∷ 0 ∷ 0 ∷
+    -- B
+    12 ∷ 0 ∷ 2 ∷ 0 ∷ 2 ∷ 0 ∷ 0 ∷ 0 ∷ 0 ∷ 0 ∷ 0 ∷ 0 ∷ 0 ∷ 0 ∷
+    -- clear
+    4 ∷ 0 ∷ 4 ∷ 0 ∷ 4 ∷ 0 ∷ []
+
+listing-l : listingOf case-l
+    ≡ ascii "REV 1\n"
+    ++ ascii "1 0 NULL IDLE 0 0 0\n"
+    ++ ascii "2 0 SETUP WAIT-SETUP 0 0 0\n"
+    ++ ascii "> IAM INVOKE SETUP\n"
+    ++ ascii "3 0 SETUP WAIT-SETUP 0 0 0\n"
+    ++ ascii "4 0 ANSWERED ACTIVE 0 0 0\n"
+    ++ ascii "> NOTIFY ACCEPTED\n"
+    ++ ascii "> CHARGE CALLED\n"
+    ++ ascii "5 0 ANSWERED ACTIVE 0 60 0\n"
+    ++ ascii "6 0 ANSWERED ACTIVE 0 60 0\n"
+    ++ ascii "> ACCESS ERROR 12\n"
+    ++ ascii "7 0 CLEARED IDLE 0 60 0\n"
+    ++ ascii "> STOP\n"
+    ++ ascii "> REL 16\n"
+    ++ ascii "END 7\n"
+unfolding case-l listingOf recordsOf restOf startPlace placeAfter textOf nextOf recordText actionsText sentText numberedLine lineText metersText standText messageText valuesText partsText withDigits textIf withOperation operationText causeText nameText readAt eventAt accessAt messageAt durationIf numberIf componentOf askAt openingAt frameAt frameOf lengthOf numberAt le8At le4At le2At numbered decimal decimalBy lastDigits ifLt ifLe ifEq ifSo
+listing-l = refl

@@ -1,0 +1,74 @@
+-- The lines of a listing. 01: "for each record its ordinal, number, phase, REV state, caller, called, far; then its actions,
+-- each after `> `; last `END` and the count of records shown". "Lines end in one newline."
+-- Assumes nothing.
+use mathlib.Core.List.{List, [], _++_}
+use Prim.Native.Nat.{ℕ}
+use Rattle.meters.specs.declared.Meters.{Meters}
+use Rattle.text.specs.Text.{ascii, decimal, numbered}
+use Rattle.rows.specs.declared.Action.{Action}
+use Rattle.rows.specs.declared.Call.{Call}
+use Rattle.rows.specs.declared.Message.{Message}
+use Rattle.rows.specs.declared.Outcome.{Outcome}
+use Rattle.rows.specs.declared.Phase.{Phase}
+use Rattle.rows.specs.declared.RevState.{RevState}
+use Rattle.rows.specs.declared.Stand.{Stand}
+use Rattle.files.specs.Messages.{messageText}
+
+-- 01: "Before the opening NONE and IDLE"
+abbrev pub phaseText : Phase → List ℕ
+phaseText Phase.Unopened = ascii " NONE"
+phaseText Phase.Null = ascii " NULL"
+phaseText Phase.Setup = ascii " SETUP"
+phaseText Phase.Answered = ascii " ANSWERED"
+phaseText Phase.Cleared = ascii " CLEARED"
+
+abbrev pub revText : RevState → List ℕ
+revText RevState.Idle = ascii " IDLE"
+revText RevState.WaitSetup = ascii " WAIT-SETUP"
+revText RevState.WaitActive = ascii " WAIT-ACTIVE"
+revText RevState.WaitAnswer = ascii " WAIT-ANSWER"
+revText RevState.Active = ascii " ACTIVE"
+revText RevState.WaitSetupConf = ascii " WAIT-SETUP-CONF"
+revText RevState.WaitActiveConf = ascii " WAIT-ACTIVE-CONF"
+revText RevState.WaitCalled = ascii " WAIT-CALLED"
+
+unfoldable pub standText : Stand → List ℕ
+standText stand = phaseText (stand .phase) ++ revText (stand .rev)
+
+unfoldable pub metersText : Meters → List ℕ
+metersText m = numbered (ascii " ") (m .caller) ++ numbered (ascii " ") (m .called) ++ numbered (ascii " ") (m .far)
+
+-- "its ordinal, number, phase, REV state, caller, called, far"
+unfoldable pub lineText : ℕ → ℕ → Call → List ℕ
+lineText ordinal number call =
+    decimal ordinal ++ numbered (ascii " ") number ++ standText (call .stand) ++ metersText (call .meters) ++ ascii "\n"
+
+unfoldable pub numberedLine : List ℕ → ℕ → List ℕ
+numberedLine word n = numbered word n ++ ascii "\n"
+
+unfoldable pub sentText : Message → List ℕ
+sentText m = ascii "> " ++ messageText m ++ ascii "\n"
+
+-- "An action is one of ..; or a message"; Nothing is none
+abbrev pub actionText : Action → List ℕ
+actionText Action.Nothing = []
+actionText Action.NotifyAccepted = ascii "> NOTIFY ACCEPTED\n"
+actionText Action.AccessSetup = ascii "> ACCESS SETUP\n"
+actionText Action.AccessAsk = ascii "> ACCESS ASK\n"
+actionText (Action.AccessError n) = numberedLine (ascii "> ACCESS ERROR ") n
+actionText (Action.AccessRel cause) = numberedLine (ascii "> ACCESS REL ") cause
+actionText Action.ChargeCalling = ascii "> CHARGE CALLING\n"
+actionText Action.ChargeCalled = ascii "> CHARGE CALLED\n"
+actionText Action.Stop = ascii "> STOP\n"
+actionText (Action.Send m) = sentText m
+
+unfoldable pub actionsText : Outcome → List ℕ
+actionsText o = actionText (o .first) ++ actionText (o .second) ++ actionText (o .third) ++ actionText (o .fourth)
+
+-- a record's line and its actions
+unfoldable pub recordText : ℕ → Outcome → List ℕ
+recordText ordinal o = lineText ordinal (o .number) (o .call) ++ actionsText o
+
+-- no record's text is longer
+abbrev pub longestRecord : ℕ
+longestRecord = 2727

@@ -1,0 +1,149 @@
+// The body of a record, and the event that it is. No field is judged here: the call answers 3.
+ghost use mathlib.Core.Path.{_≡_};
+ghost use Prim.Native.Nat.{_+_, _<_, _^_};
+ghost use Rattle.files.specs.Bodies.{openingAt, askAt, componentOf, numberIf, durationIf, messageAt, accessAt, eventAt, readAt};
+use crate::Frame;
+use crate::Read;
+use crate::bytes::byte;
+use crate::bytes::le4;
+use crate::bytes::number_at;
+use crate::frames::frame;
+use rows::Component;
+use rows::Event;
+use rows::Message;
+use rows::Number;
+
+fn opening_at(s: &[u8], b: usize) -> Event
+    requires { ⌜ b + 64 < 2 ^ 64 ⌝ }
+    ensures { λ r. ⌜ r ≡ openingAt (now (s .entry)) b ⌝ }
+{
+    let role = byte(s, b);
+    let flags = byte(s, b + 1);
+    let own = number_at(s, b + 2);
+    Event::Opening(role, flags, own)
+}
+
+fn ask_at(s: &[u8], b: usize) -> Event
+    requires { ⌜ b + 64 < 2 ^ 64 ⌝ }
+    ensures { λ r. ⌜ r ≡ askAt (now (s .entry)) b ⌝ }
+{
+    let item = byte(s, b);
+    let called = number_at(s, b + 1);
+    Event::Ask(item, called)
+}
+
+fn component_of(code: u8, n: u8) -> Component
+    ensures { λ r. ⌜ r ≡ componentOf code n ⌝ }
+{
+    if code == 0 {
+        return Component::Absent(n);
+    }
+    if code == 1 {
+        return Component::Invoke(n);
+    }
+    if code == 2 {
+        return Component::Result(n);
+    }
+    if code == 3 {
+        return Component::Error(n);
+    }
+    if code == 4 {
+        return Component::Reject(n);
+    }
+    Component::Unknown(code, n)
+}
+
+// A number where its part is present, else absent.
+fn number_if(s: &[u8], i: usize, present: u8) -> Number
+    requires { ⌜ i + 8 < 2 ^ 64 ⌝ }
+    ensures { λ r. ⌜ r ≡ numberIf (now (s .entry)) i present ⌝ }
+{
+    if present == 1 {
+        return number_at(s, i);
+    }
+    Number { count: 0, value: 0 }
+}
+
+fn duration_if(s: &[u8], i: usize, present: u8) -> u32
+    requires { ⌜ i + 3 < 2 ^ 64 ⌝ }
+    ensures { λ r. ⌜ r ≡ durationIf (now (s .entry)) i present ⌝ }
+{
+    if present == 1 {
+        return le4(s, i);
+    }
+    0
+}
+
+// The numbers and the duration that are present follow one another.
+fn message_at(s: &[u8], b: usize) -> Message
+    requires { ⌜ b + 64 < 2 ^ 64 ⌝ }
+    ensures { λ r. ⌜ r ≡ messageAt (now (s .entry)) b ⌝ }
+{
+    let kind = byte(s, b);
+    let cause = byte(s, b + 1);
+    let code = byte(s, b + 2);
+    let n = byte(s, b + 3);
+    let component = component_of(code, n);
+    let parts = byte(s, b + 4);
+    let i = b + 5;
+    let j = i + 9 * (parts / 16 % 2) as usize;
+    let k = j + 9 * (parts / 32 % 2) as usize;
+    let calling = number_if(s, i, parts / 16 % 2);
+    let called = number_if(s, j, parts / 32 % 2);
+    let duration = duration_if(s, k, parts / 64 % 2);
+    Message {
+        kind,
+        cause,
+        component,
+        parts,
+        calling,
+        called,
+        duration,
+    }
+}
+
+fn access_at(s: &[u8], b: usize) -> Event
+    requires { ⌜ b + 64 < 2 ^ 64 ⌝ }
+    ensures { λ r. ⌜ r ≡ accessAt (now (s .entry)) b ⌝ }
+{
+    let item = byte(s, b);
+    let error = byte(s, b + 1);
+    Event::FromAccess(item, error)
+}
+
+// The event of a body. A frame lets no kind through but 1 to 6.
+fn event_at(s: &[u8], b: usize, kind: u32) -> Event
+    requires { ⌜ b + 64 < 2 ^ 64 ⌝ }
+    ensures { λ r. ⌜ r ≡ eventAt (now (s .entry)) b kind ⌝ }
+{
+    if kind == 1 {
+        return opening_at(s, b);
+    }
+    if kind == 2 {
+        return ask_at(s, b);
+    }
+    if kind == 3 {
+        return Event::Received(message_at(s, b));
+    }
+    if kind == 4 {
+        return access_at(s, b);
+    }
+    if kind == 5 {
+        return Event::Expiry;
+    }
+    Event::Time(le4(s, b))
+}
+
+// What stands at a place of a file.
+pub fn read_at(s: &[u8], at: usize) -> Read
+    ensures { λ r. ⌜ r ≡ readAt (now (s .entry)) at ⌝ }
+{
+    if s.len() <= at {
+        return Read::End;
+    }
+    let f = frame(s, at);
+    match f {
+        Frame::Stop(number) => Read::Stop(number),
+        Frame::Body(kind, next) => Read::Got(event_at(s, at + 4, kind), next),
+    }
+}

@@ -1,0 +1,29 @@
+// The event file of one call, and its listing.
+//
+//     bytes --frame--> kind --event--> Event --step--> Outcome --put--> text
+//
+// Every read and every store is total: a byte past the end of the file is 0, a byte past the end of the buffer is not stored.
+mod bodies;
+mod bytes;
+mod frames;
+mod lines;
+mod listing;
+mod messages;
+
+pub use bodies::read_at;
+pub use listing::rev_listing;
+use rows::Event;
+
+// A record's frame: the number at which reading stops; or its kind and the place after it.
+pub enum Frame {
+    Stop(u8),
+    Body(u32, usize),
+}
+
+// What stands at a place of a file: nothing; a record at which reading stops, with the number given back, and the place
+// stays; or a record's event and the place after it.
+pub enum Read {
+    End,
+    Stop(u8),
+    Got(Event, usize),
+}

@@ -1,0 +1,147 @@
+// The lines of a listing: a record's, an action's, the last.
+ghost use Prim.Native.Nat.{_+_, _≤_, _<_, _^_};
+ghost use lib.ListN.{length};
+ghost use Rattle.text.specs.Text.{Put};
+ghost use Rattle.files.specs.Lines.{phaseText, revText, standText, metersText, lineText, numberedLine, sentText, actionText, actionsText, recordText, longestRecord};
+use crate::messages::put_message;
+use meters::Meters;
+use rows::Action;
+use rows::Call;
+use rows::Message;
+use rows::Outcome;
+use rows::Phase;
+use rows::RevState;
+use rows::Stand;
+
+fn put_phase(out: &mut [u8], at: usize, phase: Phase) -> usize
+    requires { ⌜ at < 2 ^ 60 ⌝ }
+    ensures { λ r. ⌜ Put (now (out .entry)) at (phaseText phase) (now (out .exit)) r ⌝ }
+    ensures { λ r. ⌜ r ≤ at + 9 ⌝ }
+{
+    match phase {
+        Phase::Unopened => text::put_word(out, at, b" NONE"),
+        Phase::Null => text::put_word(out, at, b" NULL"),
+        Phase::Setup => text::put_word(out, at, b" SETUP"),
+        Phase::Answered => text::put_word(out, at, b" ANSWERED"),
+        Phase::Cleared => text::put_word(out, at, b" CLEARED"),
+    }
+}
+
+fn put_rev(out: &mut [u8], at: usize, rev: RevState) -> usize
+    requires { ⌜ at < 2 ^ 60 ⌝ }
+    ensures { λ r. ⌜ Put (now (out .entry)) at (revText rev) (now (out .exit)) r ⌝ }
+    ensures { λ r. ⌜ r ≤ at + 17 ⌝ }
+{
+    match rev {
+        RevState::Idle => text::put_word(out, at, b" IDLE"),
+        RevState::WaitSetup => text::put_word(out, at, b" WAIT-SETUP"),
+        RevState::WaitActive => text::put_word(out, at, b" WAIT-ACTIVE"),
+        RevState::WaitAnswer => text::put_word(out, at, b" WAIT-ANSWER"),
+        RevState::Active => text::put_word(out, at, b" ACTIVE"),
+        RevState::WaitSetupConf => text::put_word(out, at, b" WAIT-SETUP-CONF"),
+        RevState::WaitActiveConf => text::put_word(out, at, b" WAIT-ACTIVE-CONF"),
+        RevState::WaitCalled => text::put_word(out, at, b" WAIT-CALLED"),
+    }
+}
+
+fn put_stand(out: &mut [u8], at: usize, stand: Stand) -> usize
+    requires { ⌜ at < 2 ^ 59 ⌝ }
+    ensures { λ r. ⌜ Put (now (out .entry)) at (standText stand) (now (out .exit)) r ⌝ }
+    ensures { λ r. ⌜ r ≤ at + 26 ⌝ }
+{
+    let phase = stand.phase;
+    let rev = stand.rev;
+    let to = put_phase(out, at, phase);
+    put_rev(out, to, rev)
+}
+
+fn put_meters(out: &mut [u8], at: usize, m: Meters) -> usize
+    requires { ⌜ at < 2 ^ 59 ⌝ }
+    ensures { λ r. ⌜ Put (now (out .entry)) at (metersText m) (now (out .exit)) r ⌝ }
+    ensures { λ r. ⌜ r ≤ at + 63 ⌝ }
+{
+    let mut to = text::put_numbered(out, at, b" ", m.caller as u64);
+    to = text::put_numbered(out, to, b" ", m.called as u64);
+    text::put_numbered(out, to, b" ", m.far as u64)
+}
+
+// A record's line: its ordinal, its number, and the call after it.
+fn put_line(out: &mut [u8], at: usize, ordinal: u64, number: u8, call: Call) -> usize
+    requires { ⌜ at < 2 ^ 58 ⌝ }
+    ensures { λ r. ⌜ Put (now (out .entry)) at (lineText ordinal number call) (now (out .exit)) r ⌝ }
+    ensures { λ r. ⌜ r ≤ at + 131 ⌝ }
+{
+    let stand = call.stand;
+    let meters = call.meters;
+    let mut to = text::put_dec(out, at, ordinal);
+    to = text::put_numbered(out, to, b" ", number as u64);
+    to = put_stand(out, to, stand);
+    to = put_meters(out, to, meters);
+    text::put(out, to, b'\n')
+}
+
+// A word, a number, and the end of the line.
+pub fn put_numbered_line(out: &mut [u8], at: usize, word: &[u8], n: u64) -> usize
+    requires { ⌜ at + length (now word) < 2 ^ 61 ⌝ }
+    ensures { λ r. ⌜ Put (now (out .entry)) at (numberedLine (now (word .entry)) n) (now (out .exit)) r ⌝ }
+    ensures { λ r. ⌜ r ≤ at + length (now (word .entry)) + 21 ⌝ }
+{
+    let to = text::put_numbered(out, at, word, n);
+    text::put(out, to, b'\n')
+}
+
+fn put_sent(out: &mut [u8], at: usize, m: Message) -> usize
+    requires { ⌜ at < 2 ^ 58 ⌝ }
+    ensures { λ r. ⌜ Put (now (out .entry)) at (sentText m) (now (out .exit)) r ⌝ }
+    ensures { λ r. ⌜ r ≤ at + 649 ⌝ }
+{
+    let mut to = text::put_word(out, at, b"> ");
+    to = put_message(out, to, m);
+    text::put(out, to, b'\n')
+}
+
+// An action's line; none for Nothing.
+fn put_action(out: &mut [u8], at: usize, a: Action) -> usize
+    requires { ⌜ at < 2 ^ 58 ⌝ }
+    ensures { λ r. ⌜ Put (now (out .entry)) at (actionText a) (now (out .exit)) r ⌝ }
+    ensures { λ r. ⌜ r ≤ at + 649 ⌝ }
+{
+    match a {
+        Action::Nothing => at,
+        Action::NotifyAccepted => text::put_word(out, at, b"> NOTIFY ACCEPTED\n"),
+        Action::AccessSetup => text::put_word(out, at, b"> ACCESS SETUP\n"),
+        Action::AccessAsk => text::put_word(out, at, b"> ACCESS ASK\n"),
+        Action::AccessError(n) => put_numbered_line(out, at, b"> ACCESS ERROR ", n as u64),
+        Action::AccessRel(cause) => put_numbered_line(out, at, b"> ACCESS REL ", cause as u64),
+        Action::ChargeCalling => text::put_word(out, at, b"> CHARGE CALLING\n"),
+        Action::ChargeCalled => text::put_word(out, at, b"> CHARGE CALLED\n"),
+        Action::Stop => text::put_word(out, at, b"> STOP\n"),
+        Action::Send(m) => put_sent(out, at, m),
+    }
+}
+
+fn put_actions(out: &mut [u8], at: usize, o: Outcome) -> usize
+    requires { ⌜ at < 2 ^ 57 ⌝ }
+    ensures { λ r. ⌜ Put (now (out .entry)) at (actionsText o) (now (out .exit)) r ⌝ }
+    ensures { λ r. ⌜ r ≤ at + 2596 ⌝ }
+{
+    let first = o.first;
+    let second = o.second;
+    let third = o.third;
+    let fourth = o.fourth;
+    let mut to = put_action(out, at, first);
+    to = put_action(out, to, second);
+    to = put_action(out, to, third);
+    put_action(out, to, fourth)
+}
+
+// A record's line and its actions.
+pub fn put_record(out: &mut [u8], at: usize, ordinal: u64, o: Outcome) -> usize
+    requires { ⌜ at < 2 ^ 56 ⌝ }
+    ensures { λ r. ⌜ Put (now (out .entry)) at (recordText ordinal o) (now (out .exit)) r ⌝ }
+    ensures { λ r. ⌜ r ≤ at + longestRecord ⌝ }
+{
+    let call = o.call;
+    let to = put_line(out, at, ordinal, o.number, call);
+    put_actions(out, to, o)
+}

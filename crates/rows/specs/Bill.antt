@@ -1,0 +1,300 @@
+-- DEMAND 3: who pays each answered second of one originating call, by its history alone.
+--
+--   "For one originating call from its opening, with any sequence of well-formed events, refused ones among them: the
+--   caller's, called user's and far exchange's seconds add up to the answered seconds (those of accepted time events after
+--   answer and before clearing). Each second has one payer, and the history alone names it: the caller where no reversal
+--   took effect; after one the far exchange with transfer, the called user without: for the seconds after acceptance in
+--   case B, for all of them in A, C and D."
+--
+-- A history is a list of steps, first step first. The bill reads the opening's flags byte and the steps, and nothing else: no
+-- meter, no payer, no total, no case that a call holds. It takes nothing from the definitions of the rows, and reads the numbers
+-- of an event by tests of its own.
+--
+-- It asks the history for one reversal at most, the first, and does not look for a second call in it: a call that is in ACTIVE
+-- stays there until it clears, and a cleared or opened call refuses an opening. Demand 2 says so, not this file.
+-- Assumes nothing.
+use Prim.Native.Nat.{ℕ, _+_, _/_, _%_}
+use mathlib.Core.Bool.{Bool, true, false, _&&_}
+use mathlib.Core.List.{List, [], _∷_}
+use lib.Dec.{eqb}
+use Rattle.meters.specs.declared.Payer.{Payer}
+use Rattle.meters.specs.declared.Payer.the-variants.{Nobody, Caller, Called, Far}
+use Rattle.rows.specs.declared.Component.{Component}
+use Rattle.rows.specs.declared.Component.the-variants.{Absent, Invoke, Result, Error, Reject, Unknown}
+use Rattle.rows.specs.declared.Event.{Event}
+use Rattle.rows.specs.declared.Event.the-variants.{Opening, Ask, Received, FromAccess, Expiry, Time}
+use Rattle.rows.specs.declared.Message.{Message}
+use Rattle.rows.specs.declared.Phase.{Phase}
+use Rattle.rows.specs.declared.Phase.the-variants.{Unopened, Null, Setup, Answered, Cleared}
+use Rattle.rows.specs.declared.RevState.{RevState}
+use Rattle.rows.specs.declared.RevState.the-variants.{Idle, WaitSetup, WaitActive, WaitAnswer, Active, WaitSetupConf, WaitActiveConf, WaitCalled}
+
+abbrev pub pick : {A : Type 0} → Bool → A → A → A
+pick true a b = a
+pick false a b = b
+
+-- ---- A step: the event, the number given back, phase and REV state before and after
+
+pub record Step : Type 0 where
+  pub event : Event
+  pub number : ℕ
+  pub phase : Phase
+  pub rev : RevState
+  pub phaseAfter : Phase
+  pub revAfter : RevState
+
+-- the number given back says that a row applied (01: 0)
+abbrev pub accepted : Step → Bool
+accepted s = eqb (s .number) 0
+
+-- ANSWERED: after answer and before clearing
+abbrev pub isAnswered : Phase → Bool
+isAnswered Unopened = false
+isAnswered Null = false
+isAnswered Setup = false
+isAnswered Answered = true
+isAnswered Cleared = false
+
+-- two REV states are the same
+abbrev pub revNumber : RevState → ℕ
+revNumber Idle = 0
+revNumber WaitSetup = 1
+revNumber WaitActive = 2
+revNumber WaitAnswer = 3
+revNumber Active = 4
+revNumber WaitSetupConf = 5
+revNumber WaitActiveConf = 6
+revNumber WaitCalled = 7
+
+abbrev pub isRev : RevState → RevState → Bool
+isRev p q = eqb (revNumber p) (revNumber q)
+
+-- ---- "the answered seconds (those of accepted time events after answer and before clearing)"
+
+abbrev pub isTime : Event → Bool
+isTime (Opening r f n) = false
+isTime (Ask q n) = false
+isTime (Received m) = false
+isTime (FromAccess a n) = false
+isTime Expiry = false
+isTime (Time s) = true
+
+abbrev pub secondsIn : Event → ℕ
+secondsIn (Opening r f n) = 0
+secondsIn (Ask q n) = 0
+secondsIn (Received m) = 0
+secondsIn (FromAccess a n) = 0
+secondsIn Expiry = 0
+secondsIn (Time s) = s
+
+abbrev pub counted : Step → Bool
+counted s = accepted s && (isTime (s .event) && isAnswered (s .phase))
+
+-- a number for each such event, in order
+abbrev pub times : List Step → List ℕ
+times [] = []
+times (s ∷ h) = pick (counted s) (secondsIn (s .event) ∷ times h) (times h)
+
+abbrev pub sum : List ℕ → ℕ
+sum [] = 0
+sum (n ∷ ns) = n + sum ns
+
+abbrev pub answered : List Step → ℕ
+answered h = sum (times h)
+
+-- ---- What a message says of a reversal. Operations: 1 case A, 2 case B by the caller, 3 cases B, C and D by the called user.
+-- Parts: 1 transfer requested, 2 Transfer Accepted, 4 its answer is transfer, 8 partial call. Flag 1: transfer
+
+abbrev pub lowestBit : ℕ → Bool
+lowestBit n = eqb (n % 2) 1
+
+abbrev pub bitAt : ℕ → ℕ → Bool
+bitAt k n = eqb ((n / k) % 2) 1
+
+abbrev pub resultTo : ℕ → Component → Bool
+resultTo k (Absent n) = false
+resultTo k (Invoke n) = false
+resultTo k (Result n) = eqb n k
+resultTo k (Error n) = false
+resultTo k (Reject n) = false
+resultTo k (Unknown c n) = false
+
+abbrev pub invokeOf : ℕ → Component → Bool
+invokeOf k (Absent n) = false
+invokeOf k (Invoke n) = eqb n k
+invokeOf k (Result n) = false
+invokeOf k (Error n) = false
+invokeOf k (Reject n) = false
+invokeOf k (Unknown c n) = false
+
+pub record Said : Type 0 where
+  -- the far side accepts the caller's request, by case A or by case B
+  pub acceptsA : Bool
+  pub acceptsB : Bool
+  -- the far side asks: cases B, C and D. In an answered call, for a part of it: case B
+  pub requests : Bool
+  pub partial : Bool
+  -- beside a request: it asks for transfer, and the flag takes it
+  pub asksTransfer : Bool
+  -- beside an acceptance: it gives transfer, and transfer had been asked for, which the flag decides. 01: "No transfer where none
+  -- was asked, even if the result claims it, or where Transfer Accepted is absent"
+  pub givesTransfer : Bool
+
+abbrev pub saying : Bool → Bool → Bool → Bool → Bool → Bool → Said
+saying a b q p t g = record { acceptsA = a; acceptsB = b; requests = q; partial = p; asksTransfer = t; givesTransfer = g }
+
+-- f: the opening's flags byte
+abbrev pub saidIn : ℕ → Message → Said
+saidIn f m =
+    saying (resultTo 1 (m .component)) (resultTo 2 (m .component)) (invokeOf 3 (m .component)) (bitAt 8 (m .parts))
+    (lowestBit f && lowestBit (m .parts))
+    (lowestBit f && (bitAt 2 (m .parts) && bitAt 4 (m .parts)))
+
+abbrev pub silence : Said
+silence = saying false false false false false false
+
+abbrev pub said : ℕ → Event → Said
+said f (Opening r g n) = silence
+said f (Ask q n) = silence
+said f (Received m) = saidIn f m
+said f (FromAccess a n) = silence
+said f Expiry = silence
+said f (Time s) = silence
+
+-- ---- What a step shows: nothing of the bill; answered seconds; a reversal that takes effect, its case, with transfer or without
+
+pub data Case : Type 0 where
+  caseA : Case
+  caseB : Case
+  caseC : Case
+  caseD : Case
+
+pub data Mark : Type 0 where
+  plain : Mark
+  second : ℕ → Mark
+  reversed : Case → Bool → Mark
+
+-- A step that leads to ACTIVE. From WAIT-SETUP: the result of case A. From WAIT-ACTIVE: the result of case B. From IDLE: the
+-- called user's request in the answered call, B for a part of it, else C. From WAIT-ANSWER: case D, asked for before (d).
+-- ACTIVE without the acceptance that leads to it is no reversal
+abbrev pub turns : Said → Mark → RevState → Mark
+turns w d Idle = pick (w .requests) (pick (w .partial) (reversed caseB (w .asksTransfer)) (reversed caseC (w .asksTransfer))) plain
+turns w d WaitSetup = pick (w .acceptsA) (reversed caseA (w .givesTransfer)) plain
+turns w d WaitActive = pick (w .acceptsB) (reversed caseB (w .givesTransfer)) plain
+turns w d WaitAnswer = d
+turns w d Active = plain
+turns w d WaitSetupConf = plain
+turns w d WaitActiveConf = plain
+turns w d WaitCalled = plain
+
+-- REV in effect: ACTIVE in an answered call
+abbrev pub inEffect : Step → Bool
+inEffect s = isAnswered (s .phaseAfter) && isRev Active (s .revAfter)
+
+abbrev pub markBy : Said → Mark → Step → Mark
+markBy w d s =
+    pick (counted s) (second (secondsIn (s .event)))
+    (pick (accepted s && inEffect s) (turns w d (s .rev)) plain)
+
+-- The one thing to remember: a case D that was asked for takes effect later, at the answer. From IDLE to WAIT-ANSWER: the
+-- called user's request before the answer
+abbrev pub waitsBy : Said → Mark → Step → Mark
+waitsBy w d s =
+    pick (accepted s && (isRev Idle (s .rev) && isRev WaitAnswer (s .revAfter)))
+    (pick (w .requests) (reversed caseD (w .asksTransfer)) plain) d
+
+abbrev pub mark : ℕ → Mark → Step → Mark
+mark f d s = markBy (said f (s .event)) d s
+
+abbrev pub waits : ℕ → Mark → Step → Mark
+waits f d s = waitsBy (said f (s .event)) d s
+
+abbrev pub marks : ℕ → Mark → List Step → List Mark
+marks f d [] = []
+marks f d (s ∷ h) = mark f d s ∷ marks f (waits f d s) h
+
+-- ---- The reversal that took effect, if one did
+
+pub data Took : Type 0 where
+  nothing : Took
+  took : Case → Bool → Took
+
+abbrev pub reversal : List Mark → Took
+reversal [] = nothing
+reversal (plain ∷ ms) = reversal ms
+reversal (second n ∷ ms) = reversal ms
+reversal (reversed k t ∷ ms) = took k t
+
+-- ---- The payer of a second, by the reversal and whether the acceptance had passed (b)
+
+-- "the far exchange with transfer, the called user without"
+abbrev pub turnedTo : Bool → Payer
+turnedTo true = Far
+turnedTo false = Called
+
+-- "for the seconds after acceptance in case B, for all of them in A, C and D"
+abbrev pub covers : Case → Bool → Bool
+covers caseA b = true
+covers caseB b = b
+covers caseC b = true
+covers caseD b = true
+
+-- "the caller where no reversal took effect; after one the far exchange with transfer, the called user without"
+abbrev pub payer : Took → Bool → Payer
+payer nothing b = Caller
+payer (took k t) b = pick (covers k b) (turnedTo t) Caller
+
+-- ---- THE BILL: one payment for each accepted time event after answer and before clearing
+
+pub record Paid : Type 0 where
+  pub seconds : ℕ
+  pub by : Payer
+
+abbrev pub payments : Took → Bool → List Mark → List Paid
+payments w b [] = []
+payments w b (plain ∷ ms) = payments w b ms
+payments w b (second n ∷ ms) = record { seconds = n; by = payer w b } ∷ payments w b ms
+payments w b (reversed k t ∷ ms) = payments w true ms
+
+-- f: the opening's flags byte; h: the steps after the opening
+abbrev pub bill : ℕ → List Step → List Paid
+bill f h = payments (reversal (marks f plain h)) false (marks f plain h)
+
+abbrev pub allSeconds : List Paid → List ℕ
+allSeconds [] = []
+allSeconds (x ∷ xs) = x .seconds ∷ allSeconds xs
+
+abbrev pub payerNumber : Payer → ℕ
+payerNumber Nobody = 0
+payerNumber Caller = 1
+payerNumber Called = 2
+payerNumber Far = 3
+
+abbrev pub same : Payer → Payer → Bool
+same p q = eqb (payerNumber p) (payerNumber q)
+
+-- what one payer owes on a bill
+abbrev pub owed : Payer → List Paid → ℕ
+owed q [] = 0
+owed q (x ∷ xs) = pick (same q (x .by)) (x .seconds) 0 + owed q xs
+
+-- ---- From before the opening. The first accepted step is the opening; the flags stand in its event, and the steps after it
+-- are the call's history
+
+pub data Line : Type 0 where
+  unopened : Line
+  originating : ℕ → List Step → Line
+  destination : Line
+  strange : Line
+
+abbrev pub openedBy : Event → List Step → Line
+openedBy (Opening r f n) h = pick (eqb r 0) (originating f h) (pick (eqb r 1) destination strange)
+openedBy (Ask q n) h = strange
+openedBy (Received m) h = strange
+openedBy (FromAccess a n) h = strange
+openedBy Expiry h = strange
+openedBy (Time s) h = strange
+
+abbrev pub line : List Step → Line
+line [] = unopened
+line (s ∷ h) = pick (accepted s) (openedBy (s .event) h) (line h)

@@ -1,0 +1,240 @@
+//! 01, "The listing".
+
+use crate::model::events::LONGEST_FILE;
+use crate::model::{Action, Component, Digits, Given, History, Message, Name, Operation, Phase, Rev, Row, Shown};
+use std::io::Write;
+
+/// The buffer of the listing program.
+pub const ROOM: usize = 65_536;
+
+/// What the listing program prints on 8, alone.
+pub const REFUSED: &[u8] = b"REFUSED 8\n";
+
+/// A listing, and for each record shown its number and the row it was judged by.
+pub struct Listing {
+    pub text: Vec<u8>,
+    pub reached: Vec<(Given, Option<Row>)>,
+}
+
+/// Lists a file, or gives nothing for number 8: "listing longer than its buffer, or file too long".
+pub fn listing(file: &[u8], room: usize) -> Option<Listing> {
+    if file.len() > LONGEST_FILE {
+        return None;
+    }
+    let mut text = b"REV 1\n".to_vec();
+    let mut reached = Vec::new();
+    for shown in History::new(file) {
+        record(&mut text, &shown);
+        if text.len() > room {
+            return None;
+        }
+        reached.push((shown.answer.given, shown.answer.row));
+    }
+    line(&mut text, format_args!("END {}", reached.len()));
+    (text.len() <= room).then_some(Listing { text, reached })
+}
+
+/// "Lines end in one newline."
+fn line(text: &mut Vec<u8>, words: std::fmt::Arguments) {
+    put(text, words);
+    text.push(b'\n');
+}
+
+fn put(text: &mut Vec<u8>, words: std::fmt::Arguments) {
+    text.write_fmt(words).expect("a vector takes all bytes");
+}
+
+/// "for each record its ordinal, number, phase, REV state, caller, called, far; then its actions, each after `> `"
+fn record(text: &mut Vec<u8>, shown: &Shown) {
+    let (given, call) = (shown.answer.given as u8, &shown.answer.call);
+    let (phase, rev) = (phase_name(call.phase), rev_name(call.rev));
+    line(text, format_args!("{} {given} {phase} {rev} {} {} {}", shown.ordinal, call.caller, call.called, call.far));
+    for action in &shown.answer.actions {
+        text.extend(b"> ");
+        put_action(text, action);
+        text.push(b'\n');
+    }
+}
+
+fn phase_name(phase: Phase) -> &'static str {
+    match phase {
+        Phase::None => "NONE",
+        Phase::Null => "NULL",
+        Phase::Setup => "SETUP",
+        Phase::Answered => "ANSWERED",
+        Phase::Cleared => "CLEARED",
+    }
+}
+
+fn rev_name(rev: Rev) -> &'static str {
+    match rev {
+        Rev::Idle => "IDLE",
+        Rev::WaitSetup => "WAIT-SETUP",
+        Rev::WaitSetupConf { .. } => "WAIT-SETUP-CONF",
+        Rev::WaitCalled(_) => "WAIT-CALLED",
+        Rev::WaitAnswer { .. } => "WAIT-ANSWER",
+        Rev::WaitActive => "WAIT-ACTIVE",
+        Rev::WaitActiveConf { .. } => "WAIT-ACTIVE-CONF",
+        Rev::Active => "ACTIVE",
+    }
+}
+
+fn put_action(text: &mut Vec<u8>, action: &Action) {
+    match action {
+        Action::NotifyAccepted => text.extend(b"NOTIFY ACCEPTED"),
+        Action::AccessSetup => text.extend(b"ACCESS SETUP"),
+        Action::AccessAsk => text.extend(b"ACCESS ASK"),
+        Action::AccessError(number) => put(text, format_args!("ACCESS ERROR {number}")),
+        Action::AccessRel(cause) => put(text, format_args!("ACCESS REL {cause}")),
+        Action::ChargeCalling => text.extend(b"CHARGE CALLING"),
+        Action::ChargeCalled => text.extend(b"CHARGE CALLED"),
+        Action::Stop => text.extend(b"STOP"),
+        Action::Send(message) => put_message(text, message),
+    }
+}
+
+/// "a message name, for REL its cause, then its component (INVOKE or RESULT with SETUP, ACTIVE or CALLED; ERROR with
+/// number), then its parts in bit order"
+fn put_message(text: &mut Vec<u8>, message: &Message) {
+    match message.name {
+        Name::Iam => text.extend(b"IAM"),
+        Name::Anm => text.extend(b"ANM"),
+        Name::Con => text.extend(b"CON"),
+        Name::Rel => put(text, format_args!("REL {}", message.cause)),
+        Name::Fac => text.extend(b"FAC"),
+    }
+    match message.component {
+        Component::None => {}
+        Component::Invoke(operation) => put(text, format_args!(" INVOKE {}", operation_name(operation))),
+        Component::Result(operation) => put(text, format_args!(" RESULT {}", operation_name(operation))),
+        Component::Error(number) => put(text, format_args!(" ERROR {number}")),
+        Component::Reject => unreachable!("no row sends a reject"),
+    }
+    let parts = &message.parts;
+    for (there, word) in [
+        (parts.transfer_requested, " TRANSFER"),
+        (parts.transfer_accepted, " ACCEPTED"),
+        (parts.as_transfer, " AS-TRANSFER"),
+        (parts.partial, " PARTIAL"),
+    ] {
+        if there {
+            text.extend(word.as_bytes());
+        }
+    }
+    if let Some(number) = parts.calling {
+        text.extend(b" CALLING ");
+        put_digits(text, number);
+    }
+    if let Some(number) = parts.called {
+        text.extend(b" CALLED ");
+        put_digits(text, number);
+    }
+    if let Some(seconds) = parts.duration {
+        put(text, format_args!(" DURATION {seconds}"));
+    }
+}
+
+fn operation_name(operation: Operation) -> &'static str {
+    match operation {
+        Operation::Setup => "SETUP",
+        Operation::Active => "ACTIVE",
+        Operation::Called => "CALLED",
+    }
+}
+
+/// "digits (as many as the count)"
+fn put_digits(text: &mut Vec<u8>, number: Digits) {
+    put(text, format_args!("{:0width$}", number.value, width = usize::from(number.count)));
+}
+
+#[cfg(test)]
+mod tests {
+    use super::*;
+
+    const CASE_L: &str = "REV 1\n1 0 NULL IDLE 0 0 0\n2 0 SETUP WAIT-SETUP 0 0 0\n> IAM INVOKE SETUP\n\
+        3 0 SETUP WAIT-SETUP 0 0 0\n4 0 ANSWERED ACTIVE 0 0 0\n> NOTIFY ACCEPTED\n> CHARGE CALLED\n\
+        5 0 ANSWERED ACTIVE 0 60 0\n6 0 ANSWERED ACTIVE 0 60 0\n> ACCESS ERROR 12\n\
+        7 0 CLEARED IDLE 0 60 0\n> STOP\n> REL 16\nEND 7\n";
+
+    fn case_l() -> Vec<u8> {
+        let records: [&[u8]; 7] = [
+            &[13, 0, 1, 0, 0, 8, 7, 0x14, 0xB0, 0x54, 0, 0, 0, 0, 0],
+            &[12, 0, 2, 0, 1, 7, 0x2B, 0xB0, 0x54, 0, 0, 0, 0, 0],
+            &[6, 0, 6, 0, 8, 0, 0, 0],
+            &[7, 0, 3, 0, 2, 0, 2, 1, 0],
+            &[6, 0, 6, 0, 60, 0, 0, 0],
+            &[12, 0, 2, 0, 2, 0, 0, 0, 0, 0, 0, 0, 0, 0],
+            &[4, 0, 4, 0, 4, 0],
+        ];
+        records.concat()
+    }
+
+    fn text(file: &[u8], room: usize) -> Option<String> {
+        listing(file, room).map(|listing| String::from_utf8(listing.text).expect("letters and digits"))
+    }
+
+    #[test]
+    fn case_l_is_listed() {
+        assert_eq!(text(&case_l(), ROOM).as_deref(), Some(CASE_L));
+    }
+
+    #[test]
+    fn nothing_is_listed() {
+        assert_eq!(text(&[], ROOM).as_deref(), Some("REV 1\nEND 0\n"));
+    }
+
+    /// A listing as long as its buffer is given, one byte more is 8, wherever the byte stands.
+    #[test]
+    fn the_buffer_ends() {
+        for room in 0..CASE_L.len() {
+            assert_eq!(text(&case_l(), room), None);
+        }
+        assert_eq!(text(&case_l(), CASE_L.len()).as_deref(), Some(CASE_L));
+    }
+
+    /// A file of 65,536 bytes is read (here up to a bad first length), one of 65,537 isn't.
+    #[test]
+    fn the_file_ends() {
+        let stopped = Some("REV 1\n1 6 NONE IDLE 0 0 0\nEND 1\n");
+        assert_eq!(text(&vec![0; 65_536], ROOM).as_deref(), stopped);
+        assert_eq!(text(&vec![0; 65_537], ROOM), None);
+    }
+
+    #[test]
+    fn damage_stops_the_reading() {
+        let mut file = case_l();
+        file.truncate(15 + 14 + 8 + 4);
+        let shown = "REV 1\n1 0 NULL IDLE 0 0 0\n2 0 SETUP WAIT-SETUP 0 0 0\n> IAM INVOKE SETUP\n\
+            3 0 SETUP WAIT-SETUP 0 0 0\n4 5 SETUP WAIT-SETUP 0 0 0\nEND 4\n";
+        assert_eq!(text(&file, ROOM).as_deref(), Some(shown));
+    }
+
+    /// All cases of a file: `## name`, one record a line in hex, `=`, and the listing up to an empty line. The file is
+    /// named by the variable CASES; else it is tests/cases.txt, if there.
+    #[test]
+    fn cases() {
+        let path = std::env::var("CASES").unwrap_or(concat!(env!("CARGO_MANIFEST_DIR"), "/tests/cases.txt").into());
+        let Ok(cases) = std::fs::read_to_string(&path) else {
+            assert!(std::env::var("CASES").is_err(), "{path} can't be read");
+            println!("skipped: no cases at {path}");
+            return;
+        };
+        let mut count = 0;
+        for case in cases.split("## ").skip(1) {
+            let (head, rest) = case.split_once("=\n").expect("a listing");
+            let (name, hex) = head.split_once('\n').expect("a name");
+            let expected = &rest[..rest.len() - 1];
+            let expected = if expected.as_bytes() == REFUSED { None } else { Some(expected) };
+            assert_eq!(text(&bytes(hex), ROOM).as_deref(), expected, "case {name}");
+            count += 1;
+        }
+        println!("{count} cases as expected");
+        assert!(count > 0, "no cases in {path}");
+    }
+
+    fn bytes(hex: &str) -> Vec<u8> {
+        let digits: Vec<char> = hex.chars().filter(|c| !c.is_whitespace()).collect();
+        let byte = |pair: &[char]| u8::from_str_radix(&pair.iter().collect::<String>(), 16).expect("hex");
+        digits.chunks(2).map(byte).collect()
+    }
+}

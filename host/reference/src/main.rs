@@ -1,0 +1,146 @@
+//! A second model of the reverse charging rules, written apart from the program, and a comparison with it.
+
+mod coverage;
+mod differential;
+mod generate;
+mod listing;
+mod model;
+
+use std::io::{Read, Write};
+use std::process::ExitCode;
+
+const USAGE: &str = "usage:
+  reference listing < FILE                       the listing of an event file
+  reference serve                                listings of many files (see differential)
+  reference differential --count N --seed S [--keep PATH] -- COMMAND ARGS..
+                                                 compares COMMAND's listings of N files with the model's
+  reference coverage --count N --seed S          how often N files reach each row and number
+  reference generate --count N --seed S --out DIR
+                                                 writes N files
+";
+
+/// What keeps the program from doing its work: a wrong command line, a file that can't be written.
+pub struct Trouble(pub String);
+
+impl From<std::io::Error> for Trouble {
+    fn from(error: std::io::Error) -> Trouble {
+        Trouble(error.to_string())
+    }
+}
+
+fn main() -> ExitCode {
+    let words: Vec<String> = std::env::args().skip(1).collect();
+    match run(&words) {
+        Ok(true) => ExitCode::SUCCESS,
+        Ok(false) => ExitCode::from(1),
+        Err(Trouble(what)) => {
+            eprintln!("reference: {what}");
+            ExitCode::from(2)
+        }
+    }
+}
+
+/// Gives whether all is as it should be.
+fn run(words: &[String]) -> Result<bool, Trouble> {
+    let Some((command, rest)) = words.split_first() else { return Err(Trouble(USAGE.into())) };
+    match command.as_str() {
+        "listing" => {
+            Options::read(rest, &[])?;
+            list()?;
+            Ok(true)
+        }
+        "serve" => {
+            Options::read(rest, &[])?;
+            differential::serve(&mut std::io::stdin().lock(), &mut std::io::stdout().lock())?;
+            Ok(true)
+        }
+        "differential" => {
+            let end = rest.iter().position(|word| word == "--").ok_or(Trouble(USAGE.into()))?;
+            let options = Options::read(&rest[..end], &["--count", "--seed", "--keep"])?;
+            let command = &rest[end + 1..];
+            if command.is_empty() {
+                return Err(Trouble(USAGE.into()));
+            }
+            let keep = options.text("--keep").unwrap_or("difference.rev");
+            differential::compare(options.number("--count")?, options.number("--seed")?, keep, command)
+        }
+        "coverage" => {
+            let options = Options::read(rest, &["--count", "--seed"])?;
+            let mut coverage = coverage::Coverage::new();
+            for ordinal in 0..options.number("--count")? {
+                let file = generate::file(options.number("--seed")?, ordinal);
+                coverage.count(listing::listing(&file, listing::ROOM).as_ref());
+            }
+            print!("{}", coverage.report());
+            Ok(coverage.missing().is_empty())
+        }
+        "generate" => {
+            let options = Options::read(rest, &["--count", "--seed", "--out"])?;
+            let out = options.text("--out").ok_or(Trouble("--out is missing".into()))?;
+            std::fs::create_dir_all(out)?;
+            for ordinal in 0..options.number("--count")? {
+                let path = format!("{out}/{ordinal:06}.rev");
+                std::fs::write(path, generate::file(options.number("--seed")?, ordinal))?;
+            }
+            Ok(true)
+        }
+        _ => Err(Trouble(USAGE.into())),
+    }
+}
+
+/// The listing program: standard input's listing, or `REFUSED 8`.
+fn list() -> std::io::Result<()> {
+    let mut file = Vec::new();
+    // One byte more than a file may have is enough to refuse it.
+    let most = model::events::LONGEST_FILE as u64 + 1;
+    std::io::stdin().lock().take(most).read_to_end(&mut file)?;
+    let listing = listing::listing(&file, listing::ROOM);
+    std::io::stdout().write_all(listing.as_ref().map_or(listing::REFUSED, |listing| &listing.text))
+}
+
+/// Options, each a name and a value.
+struct Options<'a>(Vec<(&'a str, &'a str)>);
+
+impl<'a> Options<'a> {
+    fn read(words: &'a [String], known: &[&str]) -> Result<Options<'a>, Trouble> {
+        let mut options = Vec::new();
+        for pair in words.chunks(2) {
+            match pair {
+                [name, value] if known.contains(&name.as_str()) => options.push((name.as_str(), value.as_str())),
+                _ => return Err(Trouble(USAGE.into())),
+            }
+        }
+        Ok(Options(options))
+    }
+
+    fn text(&self, name: &str) -> Option<&'a str> {
+        self.0.iter().rev().find(|(known, _)| *known == name).map(|(_, value)| *value)
+    }
+
+    fn number(&self, name: &str) -> Result<u64, Trouble> {
+        let value = self.text(name).ok_or(Trouble(format!("{name} is missing")))?;
+        value.parse().map_err(|_| Trouble(format!("{name}: {value} isn't a number")))
+    }
+}
+
+#[cfg(test)]
+mod tests {
+    use super::*;
+
+    fn words(line: &str) -> Vec<String> {
+        line.split_whitespace().map(str::to_string).collect()
+    }
+
+    #[test]
+    fn command_lines() {
+        let good = words("--count 12 --seed 3 --count 13");
+        let options = Options::read(&good, &["--count", "--seed"]).ok().expect("known options");
+        assert_eq!(options.number("--count").ok(), Some(13));
+        assert_eq!(options.number("--seed").ok(), Some(3));
+        for bad in
+            ["", "listings", "listing x", "coverage --count 3", "coverage --count x --seed 1", "differential --count 1"]
+        {
+            assert!(run(&words(bad)).is_err(), "{bad}");
+        }
+    }
+}

@@ -1,0 +1,486 @@
+//! The rules of document 01 for one call at one exchange, and the clause (ITU-T Q.736 clause 3, document 001) behind
+//! them. Comments cite 01 by its headings or words, and the clause by its numbers.
+//!
+//! The model covers histories: the calls that come from an event file, one record after another. Number 9 (a call
+//! that a host made up) is therefore left out, and of the numbers a call holds only its own is kept, since it alone
+//! is ever sent.
+
+mod destination;
+pub mod events;
+mod originating;
+
+pub use events::{Access, Ask, Component, Digits, Event, Message, Name, Operation, Parts, Role};
+
+/// 01, "Numbers given back", 2: what the sum of the meters, or a Duration that a row uses, may not pass.
+pub const YEAR: u32 = 31_536_000;
+
+/// 01, "The event file", kind 1: the flags of an opening.
+pub mod flag {
+    pub const TRANSFER: u8 = 1;
+    pub const OPTION: u8 = 2;
+    pub const SUBSCRIBED: u8 = 4;
+    pub const INTERACTION: u8 = 8;
+    pub const CASE_D: u8 = 16;
+}
+
+/// The error values that the exchange itself sends (3.4.2, error values).
+pub mod error {
+    pub const NOT_SUBSCRIBED: u8 = 4;
+    pub const NOT_AVAILABLE: u8 = 7;
+    pub const INTERACTION: u8 = 8;
+    pub const BASIC_SERVICE: u8 = 9;
+    pub const IGNORED: u8 = 11;
+    pub const RUNNING: u8 = 12;
+
+    /// "A valid error is one listed in 001's module": 4 to 12 in 3.4.2.
+    pub fn valid(number: u8) -> bool {
+        (4..=12).contains(&number)
+    }
+
+    /// The error that is passed on: the same if it is valid, else Not Available.
+    pub fn passed_on(number: u8) -> u8 {
+        if valid(number) {
+            number
+        } else {
+            NOT_AVAILABLE
+        }
+    }
+}
+
+/// The causes that the exchange itself sends (Q.850).
+pub mod cause {
+    pub const NORMAL: u8 = 16;
+    pub const REJECTED: u8 = 29;
+    pub const TIMER: u8 = 102;
+}
+
+/// 01, "Numbers given back". Number 8 belongs to the listing, number 9 to hosts.
+#[derive(Clone, Copy, PartialEq, Eq, Debug)]
+#[repr(u8)]
+pub enum Given {
+    Applied = 0,
+    NoRow = 1,
+    TooMuch = 2,
+    OutOfRange = 3,
+    PartAbsent = 4,
+    CutShort = 5,
+    BadLength = 6,
+    UnknownKind = 7,
+    NobodyPays = 10,
+}
+
+/// 01, "States and payers". NONE is the phase before the opening.
+#[derive(Clone, Copy, PartialEq, Eq, Debug)]
+pub enum Phase {
+    None,
+    Null,
+    Setup,
+    Answered,
+    Cleared,
+}
+
+/// The case that the destination's own invoke CALLED was sent for.
+#[derive(Clone, Copy, PartialEq, Eq, Debug)]
+pub enum Case {
+    B,
+    C,
+    D,
+}
+
+/// The REV state, with what it has to remember. `transfer`: transfer mode was agreed on.
+#[derive(Clone, Copy, PartialEq, Eq, Debug)]
+pub enum Rev {
+    Idle,
+    WaitSetup,
+    WaitSetupConf { transfer: bool },
+    WaitCalled(Case),
+    WaitAnswer { transfer: bool },
+    WaitActive,
+    WaitActiveConf { transfer: bool },
+    Active,
+}
+
+/// Whose meter runs.
+#[derive(Clone, Copy, PartialEq, Eq, Debug)]
+pub enum Payer {
+    Nobody,
+    Caller,
+    Called,
+    Far,
+}
+
+/// A call. Meters are in seconds.
+#[derive(Clone, Copy, PartialEq, Eq, Debug)]
+pub struct Call {
+    pub role: Role,
+    pub flags: u8,
+    pub own: Digits,
+    pub phase: Phase,
+    pub rev: Rev,
+    pub payer: Payer,
+    pub caller: u32,
+    pub called: u32,
+    pub far: u32,
+}
+
+/// A line of the table of rows: G in both roles, O at the originating, D at the destination exchange.
+#[derive(Clone, Copy, PartialEq, Eq, Debug)]
+pub enum Row {
+    G(u8),
+    O(u8),
+    D(u8),
+}
+
+/// 01, "The listing": what an action can be.
+#[derive(Clone, Copy, PartialEq, Eq, Debug)]
+pub enum Action {
+    NotifyAccepted,
+    AccessSetup,
+    AccessAsk,
+    AccessError(u8),
+    AccessRel(u8),
+    ChargeCalling,
+    ChargeCalled,
+    Stop,
+    Send(Message),
+}
+
+/// What an event does: the number given back, the row it was judged by (if one fits), the call that follows and the
+/// actions in order.
+#[derive(Clone, PartialEq, Eq, Debug)]
+pub struct Answer {
+    pub given: Given,
+    pub row: Option<Row>,
+    pub call: Call,
+    pub actions: Vec<Action>,
+}
+
+/// Why a well-formed event is refused. The order is 1, 4, 10, 2: a row is found first, then its parts are looked
+/// for, then the payer, then the sums.
+#[derive(Clone, Copy, PartialEq, Eq, Debug)]
+enum Refusal {
+    NoRow,
+    PartAbsent(Row),
+    NobodyPays(Row),
+    TooMuch(Row),
+}
+
+type Found = Result<Step, Refusal>;
+
+/// A row being applied: the call as it becomes, the actions as they come.
+#[derive(Clone, PartialEq, Eq, Debug)]
+struct Step {
+    row: Row,
+    call: Call,
+    actions: Vec<Action>,
+}
+
+impl Step {
+    fn act(mut self, action: Action) -> Step {
+        self.actions.push(action);
+        self
+    }
+
+    /// Sends a message with no cause to the other exchange.
+    fn send(self, name: Name, component: Component, parts: Parts) -> Step {
+        self.act(Action::Send(Message { name, cause: 0, component, parts }))
+    }
+
+    fn release(self, cause: u8, component: Component) -> Step {
+        self.act(Action::Send(Message { name: Name::Rel, cause, component, parts: Parts::default() }))
+    }
+
+    fn state(mut self, phase: Phase, rev: Rev) -> Step {
+        self.call.phase = phase;
+        self.call.rev = rev;
+        self
+    }
+
+    /// "A change from a payer charged at this exchange gives STOP": the STOP stands where this is called.
+    fn payer(mut self, payer: Payer) -> Step {
+        let stop = self.call.charges() && self.call.payer != payer;
+        self.call.payer = payer;
+        if stop {
+            self.actions.push(Action::Stop);
+        }
+        self
+    }
+
+    /// The call clears; a STOP, if one is due, stands where this is called.
+    fn clear(self) -> Step {
+        self.payer(Payer::Nobody).state(Phase::Cleared, Rev::Idle)
+    }
+}
+
+impl Call {
+    /// The call before its opening: NONE and IDLE.
+    pub fn before_opening() -> Call {
+        Call {
+            role: Role::Originating,
+            flags: 0,
+            own: Digits::ABSENT,
+            phase: Phase::None,
+            rev: Rev::Idle,
+            payer: Payer::Nobody,
+            caller: 0,
+            called: 0,
+            far: 0,
+        }
+    }
+
+    pub fn has(&self, flag: u8) -> bool {
+        self.flags & flag != 0
+    }
+
+    /// The called user passes the validation check: "not subscribed (judged only under flag 2)".
+    fn subscription_ok(&self) -> bool {
+        !self.has(flag::OPTION) || self.has(flag::SUBSCRIBED)
+    }
+
+    /// Whether a meter of this exchange is charging. "Far" is charged at the other exchange in either role.
+    fn charges(&self) -> bool {
+        match self.role {
+            Role::Originating => matches!(self.payer, Payer::Caller | Payer::Called),
+            Role::Destination => self.payer == Payer::Called,
+        }
+    }
+
+    /// An invoke is performed in transfer mode if it asks for it and this exchange's flag takes it.
+    fn takes_transfer(&self, invoke: &Parts) -> bool {
+        invoke.transfer_requested && self.has(flag::TRANSFER)
+    }
+
+    /// A result means transfer mode if this exchange asked for it (it does when its flag says so) and the result has
+    /// Transfer Accepted with transfer as its answer.
+    fn granted_transfer(&self, result: &Parts) -> bool {
+        self.has(flag::TRANSFER) && result.transfer_accepted && result.as_transfer
+    }
+
+    fn row(self, row: Row) -> Step {
+        Step { row, call: self, actions: Vec::new() }
+    }
+
+    fn sum(&self) -> u64 {
+        u64::from(self.caller) + u64::from(self.called) + u64::from(self.far)
+    }
+
+    /// The call that follows an event, with the number and the actions.
+    pub fn answer(self, event: &Event) -> Answer {
+        let refused = |given, row| Answer { given, row, call: self, actions: Vec::new() };
+        match self.find(event) {
+            Ok(step) => Answer { given: Given::Applied, row: Some(step.row), call: step.call, actions: step.actions },
+            Err(Refusal::NoRow) => refused(Given::NoRow, None),
+            Err(Refusal::PartAbsent(row)) => refused(Given::PartAbsent, Some(row)),
+            Err(Refusal::NobodyPays(row)) => refused(Given::NobodyPays, Some(row)),
+            Err(Refusal::TooMuch(row)) => refused(Given::TooMuch, Some(row)),
+        }
+    }
+
+    fn find(self, event: &Event) -> Found {
+        match (self.phase, event) {
+            (Phase::None, Event::Opening { role, flags, own }) => {
+                let opened = Call { role: *role, flags: *flags, own: *own, ..self };
+                Ok(opened.row(Row::G(1)).state(Phase::Null, Rev::Idle))
+            }
+            // 1: "an event before the opening, or a second opening".
+            (Phase::None, _) | (_, Event::Opening { .. }) => Err(Refusal::NoRow),
+            (Phase::Cleared, _) => Err(Refusal::NoRow),
+            _ => {
+                let own_row = match self.role {
+                    Role::Originating => originating::find(self, event),
+                    Role::Destination => destination::find(self, event),
+                };
+                match own_row {
+                    Err(Refusal::NoRow) => self.find_default(event),
+                    found => found,
+                }
+            }
+        }
+    }
+
+    /// The rows of both roles, "where the event has no row of its own" (01, "States and payers").
+    fn find_default(self, event: &Event) -> Found {
+        match (self.phase, event) {
+            // "Time is accepted in SETUP and ANSWERED; only ANSWERED counts."
+            (Phase::Setup, Event::Time(_)) => Ok(self.row(Row::G(2))),
+            (Phase::Answered, Event::Time(seconds)) => self.pass(*seconds),
+            // "own access clearing gives STOP if a meter of this exchange is charging, then REL with cause 16"
+            (Phase::Setup | Phase::Answered, Event::Access(Access::Clear)) => {
+                Ok(self.row(Row::G(4)).clear().release(cause::NORMAL, Component::None))
+            }
+            // "a REL from the other exchange gives STOP likewise, then the REL and its cause to the access"
+            (Phase::Setup | Phase::Answered, Event::Message(Message { name: Name::Rel, cause, .. })) => {
+                Ok(self.row(Row::G(5)).clear().act(Action::AccessRel(*cause)))
+            }
+            _ => Err(Refusal::NoRow),
+        }
+    }
+
+    /// Time in ANSWERED: one meter "runs and takes all seconds of a time event".
+    fn pass(self, seconds: u32) -> Found {
+        let mut step = self.row(Row::G(3));
+        let sum = self.sum() + u64::from(seconds);
+        let meter = match self.payer {
+            Payer::Nobody => return Err(Refusal::NobodyPays(Row::G(3))),
+            Payer::Caller => &mut step.call.caller,
+            Payer::Called => &mut step.call.called,
+            Payer::Far => &mut step.call.far,
+        };
+        if sum > u64::from(YEAR) {
+            return Err(Refusal::TooMuch(Row::G(3)));
+        }
+        *meter += seconds;
+        Ok(step)
+    }
+}
+
+/// One record of a file with what it did.
+#[derive(Clone, PartialEq, Eq, Debug)]
+pub struct Shown {
+    pub ordinal: u32,
+    pub answer: Answer,
+}
+
+/// Goes through a file record by record.
+pub struct History<'a> {
+    file: &'a [u8],
+    call: Call,
+    shown: u32,
+}
+
+impl<'a> History<'a> {
+    pub fn new(file: &'a [u8]) -> History<'a> {
+        History { file, call: Call::before_opening(), shown: 0 }
+    }
+}
+
+impl Iterator for History<'_> {
+    type Item = Shown;
+
+    fn next(&mut self) -> Option<Shown> {
+        if self.file.is_empty() {
+            return None;
+        }
+        let answer = match events::frame(self.file) {
+            // 5, and 6 and 7 as 5: "reading stops here".
+            Err(given) => {
+                self.file = &[];
+                Answer { given, row: None, call: self.call, actions: Vec::new() }
+            }
+            Ok(record) => {
+                self.file = &self.file[record.size()..];
+                match record.event() {
+                    None => Answer { given: Given::OutOfRange, row: None, call: self.call, actions: Vec::new() },
+                    Some(event) => self.call.answer(&event),
+                }
+            }
+        };
+        self.call = answer.call;
+        self.shown += 1;
+        Some(Shown { ordinal: self.shown, answer })
+    }
+}
+
+#[cfg(test)]
+mod tests {
+    use super::*;
+
+    fn opened(role: Role, flags: u8) -> Call {
+        let own = Digits { count: 3, value: 42 };
+        Call::before_opening().answer(&Event::Opening { role, flags, own }).call
+    }
+
+    fn plain(name: Name) -> Event {
+        message(name, Component::None, Parts::default())
+    }
+
+    fn message(name: Name, component: Component, parts: Parts) -> Event {
+        Event::Message(Message { name, cause: 31, component, parts })
+    }
+
+    /// Applies events that all have rows.
+    fn after(call: Call, events: &[Event]) -> Call {
+        events.iter().fold(call, |call, event| {
+            let answer = call.answer(event);
+            assert_eq!(answer.given, Given::Applied, "{event:?} at {call:?}");
+            answer.call
+        })
+    }
+
+    fn meters(call: Call) -> (u32, u32, u32) {
+        (call.caller, call.called, call.far)
+    }
+
+    /// 01, "Calls to try": 40 s paid by the caller, then C or B, then 20 s.
+    #[test]
+    fn forty_then_twenty() {
+        let called = Some(Digits { count: 1, value: 7 });
+        let cases = [
+            (8, Parts { called, ..Parts::default() }, (0, 60, 0)),
+            (9, Parts { transfer_requested: true, ..Parts::default() }, (0, 0, 60)),
+            (8, Parts { called, partial: true, ..Parts::default() }, (40, 20, 0)),
+            (9, Parts { transfer_requested: true, partial: true, ..Parts::default() }, (40, 0, 20)),
+        ];
+        for (flags, parts, expected) in cases {
+            let call = opened(Role::Originating, flags);
+            let start = after(call, &[Event::Ask(Ask::Basic), plain(Name::Anm), Event::Time(40)]);
+            let asked = start.answer(&message(Name::Fac, Component::Invoke(Operation::Called), parts));
+            let sent = asked.actions[0];
+            let Action::Send(result) = sent else { panic!("{sent:?}") };
+            let carries = parts.transfer_requested && !parts.partial;
+            assert_eq!(result.parts.duration, carries.then_some(40), "the duration before the meter is emptied");
+            assert_eq!(meters(after(asked.call, &[Event::Time(20)])), expected);
+        }
+    }
+
+    /// 01, "Calls to try": WAIT-SETUP, ANM with no component.
+    #[test]
+    fn answer_without_component() {
+        let waiting = after(opened(Role::Originating, 8), &[Event::Ask(Ask::A)]);
+        let answer = waiting.answer(&plain(Name::Anm));
+        assert_eq!((answer.call.phase, answer.call.rev), (Phase::Cleared, Rev::Idle));
+        assert_eq!(meters(answer.call), (0, 0, 0));
+        assert_eq!(answer.actions[..2], [Action::AccessError(7), Action::AccessRel(29)]);
+        assert_eq!(answer.row, Some(Row::O(14)));
+    }
+
+    /// 01, "Calls to try": the last second that fits; 2 for one more; 1 for an expiry in IDLE.
+    #[test]
+    fn a_year_of_seconds() {
+        let mut call = after(opened(Role::Originating, 0), &[Event::Ask(Ask::Basic), plain(Name::Con)]);
+        for _ in 0..365 {
+            call = after(call, &[Event::Time(86_400)]);
+        }
+        assert_eq!(call.caller, YEAR);
+        assert_eq!(call.answer(&Event::Time(0)).given, Given::Applied);
+        let past = call.answer(&Event::Time(1));
+        assert_eq!((past.given, past.call), (Given::TooMuch, call));
+        assert_eq!(call.answer(&Event::Expiry).given, Given::NoRow);
+    }
+
+    /// 4 comes before 2: a result to CALLED in case C with a Duration that is too long, and no calling number.
+    #[test]
+    fn absent_before_too_much() {
+        let call = after(opened(Role::Destination, 9), &[plain(Name::Iam), Event::Access(Access::Answer)]);
+        let waiting = after(call, &[Event::Time(5), Event::Ask(Ask::C)]);
+        let result = |calling, duration| {
+            let parts = Parts { transfer_accepted: true, as_transfer: true, calling, duration, ..Parts::default() };
+            waiting.answer(&message(Name::Fac, Component::Result(Operation::Called), parts))
+        };
+        let number = Some(Digits { count: 2, value: 1 });
+        assert_eq!(result(None, Some(YEAR + 1)).given, Given::PartAbsent);
+        assert_eq!(result(number, None).given, Given::PartAbsent);
+        assert_eq!(result(number, Some(YEAR + 1)).given, Given::TooMuch);
+        let taken = result(number, Some(YEAR));
+        assert_eq!(meters(taken.call), (0, YEAR, 0));
+        assert_eq!(taken.actions, [Action::ChargeCalled, Action::NotifyAccepted]);
+    }
+
+    /// 10 is a host's alone, but the order puts it before 2.
+    #[test]
+    fn nobody_pays() {
+        let call = after(opened(Role::Originating, 0), &[Event::Ask(Ask::Basic), plain(Name::Anm)]);
+        let made_up = Call { payer: Payer::Nobody, far: YEAR, ..call };
+        assert_eq!(made_up.answer(&Event::Time(1)).given, Given::NobodyPays);
+    }
+}

@@ -1,0 +1,393 @@
+//! 01, "The event file": the framing of records and the fields of each kind.
+
+use super::Given;
+
+/// 01: "A file has at most 65,536 bytes."
+pub const LONGEST_FILE: usize = 65_536;
+
+/// The longest time in one record.
+pub const DAY: u32 = 86_400;
+
+#[derive(Clone, Copy, PartialEq, Eq, Debug)]
+pub enum Role {
+    Originating,
+    Destination,
+}
+
+/// A user number: `count` digits, of which the leading ones may be zeros.
+#[derive(Clone, Copy, PartialEq, Eq, Debug)]
+pub struct Digits {
+    pub count: u8,
+    pub value: u64,
+}
+
+impl Digits {
+    pub const ABSENT: Digits = Digits { count: 0, value: 0 };
+
+    /// "below 10 to the count; count 1 to 15"
+    fn in_range(self) -> bool {
+        (1..=15).contains(&self.count) && self.value < 10_u64.pow(u32::from(self.count))
+    }
+}
+
+/// Kind 2. The called number that comes with 0 and 1 is looked at for its range alone.
+#[derive(Clone, Copy, PartialEq, Eq, Debug)]
+pub enum Ask {
+    Basic,
+    A,
+    B,
+    C,
+}
+
+#[derive(Clone, Copy, PartialEq, Eq, Debug)]
+pub enum Name {
+    Iam,
+    Anm,
+    Con,
+    Rel,
+    Fac,
+}
+
+/// The operations of 3.4.2: REVCallingReqSetup, REVCallingReqActive, REVCalledRequest.
+#[derive(Clone, Copy, PartialEq, Eq, Debug)]
+pub enum Operation {
+    Setup,
+    Active,
+    Called,
+}
+
+#[derive(Clone, Copy, PartialEq, Eq, Debug)]
+pub enum Component {
+    None,
+    Invoke(Operation),
+    Result(Operation),
+    Error(u8),
+    Reject,
+}
+
+/// The parts of a message in bit order.
+#[derive(Clone, Copy, PartialEq, Eq, Debug, Default)]
+pub struct Parts {
+    pub transfer_requested: bool,
+    pub transfer_accepted: bool,
+    pub as_transfer: bool,
+    pub partial: bool,
+    pub calling: Option<Digits>,
+    pub called: Option<Digits>,
+    pub duration: Option<u32>,
+}
+
+/// A message between the exchanges, in either direction. The cause counts with a REL only.
+#[derive(Clone, Copy, PartialEq, Eq, Debug)]
+pub struct Message {
+    pub name: Name,
+    pub cause: u8,
+    pub component: Component,
+    pub parts: Parts,
+}
+
+/// Kind 4.
+#[derive(Clone, Copy, PartialEq, Eq, Debug)]
+pub enum Access {
+    Accept,
+    Error(u8),
+    Reject,
+    Clear,
+    Answer,
+}
+
+#[derive(Clone, Copy, PartialEq, Eq, Debug)]
+pub enum Event {
+    Opening { role: Role, flags: u8, own: Digits },
+    Ask(Ask),
+    Message(Message),
+    Access(Access),
+    Expiry,
+    Time(u32),
+}
+
+/// A record whose framing is right: a known kind, and a body as long as the kind says.
+#[derive(Clone, Copy, PartialEq, Eq, Debug)]
+pub struct Record<'a> {
+    kind: u16,
+    body: &'a [u8],
+}
+
+fn two_bytes(bytes: &[u8]) -> u16 {
+    u16::from_le_bytes([bytes[0], bytes[1]])
+}
+
+/// Finds the record at the start of `file`, which isn't empty. The order is 5, 6, 5, 7, 6: "5 if two length bytes
+/// aren't there; 6 for the range; 5 if bytes lack; 7; 6 for the kind".
+pub fn frame(file: &[u8]) -> Result<Record<'_>, Given> {
+    if file.len() < 2 {
+        return Err(Given::CutShort);
+    }
+    let length = usize::from(two_bytes(file));
+    if !(2..=29).contains(&length) {
+        return Err(Given::BadLength);
+    }
+    let Some(follows) = file.get(2..2 + length) else {
+        return Err(Given::CutShort);
+    };
+    let (kind, body) = (two_bytes(follows), &follows[2..]);
+    let right = match kind {
+        1 => body.len() == 1 + 1 + 9,
+        2 => body.len() == 1 + 9,
+        3 => body.len() >= 5 && body.len() == 5 + parts_length(body[4]),
+        4 => body.len() == 2,
+        5 => body.is_empty(),
+        6 => body.len() == 4,
+        _ => return Err(Given::UnknownKind),
+    };
+    if right {
+        Ok(Record { kind, body })
+    } else {
+        Err(Given::BadLength)
+    }
+}
+
+/// "a kind 3 length follows parts 16, 32 and 64 alone"
+fn parts_length(parts: u8) -> usize {
+    let one = |bit, size| if parts & bit != 0 { size } else { 0 };
+    one(16, 9) + one(32, 9) + one(64, 4)
+}
+
+impl Record<'_> {
+    /// The bytes that the record takes in its file.
+    pub fn size(&self) -> usize {
+        2 + 2 + self.body.len()
+    }
+
+    /// The event, or nothing where a field is out of its range (number 3).
+    pub fn event(&self) -> Option<Event> {
+        let mut fields = Fields(self.body);
+        match self.kind {
+            1 => {
+                let (role, flags, own) = (fields.byte(), fields.byte(), fields.digits());
+                let role = match role {
+                    0 => Role::Originating,
+                    1 => Role::Destination,
+                    _ => return None,
+                };
+                (flags < 32 && own.in_range()).then_some(Event::Opening { role, flags, own })
+            }
+            2 => {
+                let (ask, number) = (fields.byte(), fields.digits());
+                let (ask, dials) = match ask {
+                    0 => (Ask::Basic, true),
+                    1 => (Ask::A, true),
+                    2 => (Ask::B, false),
+                    3 => (Ask::C, false),
+                    _ => return None,
+                };
+                let right = if dials { number.in_range() } else { number == Digits::ABSENT };
+                right.then_some(Event::Ask(ask))
+            }
+            3 => fields.message().map(Event::Message),
+            4 => {
+                let (item, error) = (fields.byte(), fields.byte());
+                let access = match item {
+                    1 => Access::Accept,
+                    2 => return Some(Event::Access(Access::Error(error))),
+                    3 => Access::Reject,
+                    4 => Access::Clear,
+                    5 => Access::Answer,
+                    _ => return None,
+                };
+                (error == 0).then_some(Event::Access(access))
+            }
+            5 => Some(Event::Expiry),
+            _ => {
+                let seconds = fields.four_bytes();
+                (seconds <= DAY).then_some(Event::Time(seconds))
+            }
+        }
+    }
+}
+
+/// Reads fields from a body that is long enough.
+struct Fields<'a>(&'a [u8]);
+
+impl Fields<'_> {
+    fn byte(&mut self) -> u8 {
+        let byte = self.0[0];
+        self.0 = &self.0[1..];
+        byte
+    }
+
+    fn little_endian(&mut self, size: u32) -> u64 {
+        (0..size).map(|place| u64::from(self.byte()) << (8 * place)).sum()
+    }
+
+    fn four_bytes(&mut self) -> u32 {
+        self.little_endian(4) as u32
+    }
+
+    fn digits(&mut self) -> Digits {
+        Digits { count: self.byte(), value: self.little_endian(8) }
+    }
+
+    fn message(&mut self) -> Option<Message> {
+        let name = match self.byte() {
+            1 => Name::Iam,
+            2 => Name::Anm,
+            3 => Name::Con,
+            4 => Name::Rel,
+            5 => Name::Fac,
+            _ => return None,
+        };
+        let cause = self.byte();
+        if cause > 127 {
+            return None;
+        }
+        let component = component(self.byte(), self.byte())?;
+        let parts = self.parts()?;
+        Some(Message { name, cause, component, parts })
+    }
+
+    fn parts(&mut self) -> Option<Parts> {
+        let bits = self.byte();
+        let has = |bit| bits & bit != 0;
+        // Bit 128 names no part; "Part 4 without part 2 is a bad field."
+        if has(128) || has(4) && !has(2) {
+            return None;
+        }
+        let calling = has(16).then(|| self.digits());
+        let called = has(32).then(|| self.digits());
+        let duration = has(64).then(|| self.four_bytes());
+        if ![calling, called].into_iter().flatten().all(Digits::in_range) {
+            return None;
+        }
+        Some(Parts {
+            transfer_requested: has(1),
+            transfer_accepted: has(2),
+            as_transfer: has(4),
+            partial: has(8),
+            calling,
+            called,
+            duration,
+        })
+    }
+}
+
+/// "operation (1 SETUP, 2 ACTIVE, 3 CALLED) or error number, else 0"
+fn component(component: u8, detail: u8) -> Option<Component> {
+    let operation = match detail {
+        1 => Some(Operation::Setup),
+        2 => Some(Operation::Active),
+        3 => Some(Operation::Called),
+        _ => None,
+    };
+    match component {
+        0 => (detail == 0).then_some(Component::None),
+        1 => operation.map(Component::Invoke),
+        2 => operation.map(Component::Result),
+        3 => Some(Component::Error(detail)),
+        4 => (detail == 0).then_some(Component::Reject),
+        _ => None,
+    }
+}
+
+#[cfg(test)]
+mod tests {
+    use super::*;
+
+    #[test]
+    fn framing_in_its_order() {
+        let cases: [(&[u8], Given); 13] = [
+            (&[6], Given::CutShort),
+            (&[1, 0], Given::BadLength),
+            (&[30, 0], Given::BadLength),
+            (&[2, 1, 5, 0], Given::BadLength),
+            (&[2, 0], Given::CutShort),
+            (&[29, 0, 9, 9], Given::CutShort),
+            (&[2, 0, 0, 0], Given::UnknownKind),
+            (&[2, 0, 5, 1], Given::UnknownKind),
+            (&[3, 0, 7, 0, 0], Given::UnknownKind),
+            (&[3, 0, 5, 0, 0], Given::BadLength),
+            (&[6, 0, 3, 0, 5, 0, 0, 0], Given::BadLength),
+            (&[7, 0, 3, 0, 5, 0, 0, 0, 16], Given::BadLength),
+            (&[2, 0, 3, 0], Given::BadLength),
+        ];
+        for (bytes, given) in cases {
+            assert_eq!(frame(bytes), Err(given), "{bytes:?}");
+        }
+    }
+
+    fn event(bytes: &[u8]) -> Option<Event> {
+        let record = frame(bytes).expect("a framed record");
+        assert_eq!(record.size(), bytes.len());
+        record.event()
+    }
+
+    /// Sixty seconds as 01 writes them, and the ends of the range.
+    #[test]
+    fn seconds() {
+        let time = |seconds: u32| {
+            let mut bytes = vec![6, 0, 6, 0];
+            bytes.extend(seconds.to_le_bytes());
+            event(&bytes)
+        };
+        assert_eq!(event(&[6, 0, 6, 0, 0x3C, 0, 0, 0]), Some(Event::Time(60)));
+        assert_eq!(time(86_400), Some(Event::Time(86_400)));
+        assert_eq!(time(86_401), None);
+        assert_eq!(time(u32::MAX), None);
+    }
+
+    #[test]
+    fn numbers() {
+        let opening = |role: u8, flags: u8, count: u8, value: u64| {
+            let mut bytes = vec![13, 0, 1, 0, role, flags, count];
+            bytes.extend(value.to_le_bytes());
+            event(&bytes)
+        };
+        assert!(opening(0, 31, 1, 9).is_some());
+        assert!(opening(1, 0, 15, 999_999_999_999_999).is_some());
+        assert!(opening(1, 0, 15, 0).is_some());
+        for (role, flags, count, value) in
+            [(2, 0, 1, 1), (0, 32, 1, 1), (0, 0, 0, 0), (0, 0, 16, 0), (0, 0, 1, 10), (0, 0, 15, 1_000_000_000_000_000)]
+        {
+            assert_eq!(opening(role, flags, count, value), None);
+        }
+        let ask = |ask: u8, count: u8, value: u64| {
+            let mut bytes = vec![12, 0, 2, 0, ask, count];
+            bytes.extend(value.to_le_bytes());
+            event(&bytes)
+        };
+        assert_eq!(ask(1, 1, 0), Some(Event::Ask(Ask::A)));
+        assert_eq!(ask(3, 0, 0), Some(Event::Ask(Ask::C)));
+        for (number, count, value) in [(0, 0, 0), (2, 1, 1), (2, 0, 1), (4, 0, 0)] {
+            assert_eq!(ask(number, count, value), None);
+        }
+    }
+
+    #[test]
+    fn messages() {
+        let plain = |name, cause, component, detail, parts| event(&[7, 0, 3, 0, name, cause, component, detail, parts]);
+        assert!(plain(5, 127, 4, 0, 15).is_some());
+        assert!(plain(1, 0, 3, 255, 0).is_some());
+        for (name, cause, component, detail, parts) in [
+            (0, 0, 0, 0, 0),
+            (6, 0, 0, 0, 0),
+            (1, 128, 0, 0, 0),
+            (1, 0, 5, 0, 0),
+            (1, 0, 0, 1, 0),
+            (1, 0, 1, 0, 0),
+            (1, 0, 2, 4, 0),
+            (1, 0, 4, 1, 0),
+            (1, 0, 0, 0, 4),
+            (1, 0, 0, 0, 128),
+        ] {
+            assert_eq!(plain(name, cause, component, detail, parts), None);
+        }
+        let mut full = vec![29, 0, 3, 0, 5, 0, 2, 3, 0x72];
+        full.extend([2, 7, 0, 0, 0, 0, 0, 0, 0]);
+        full.extend([1, 8, 0, 0, 0, 0, 0, 0, 0]);
+        full.extend([40, 0, 0, 0]);
+        let Some(Event::Message(message)) = event(&full) else { panic!("a message") };
+        assert_eq!(message.parts.calling, Some(Digits { count: 2, value: 7 }));
+        assert_eq!(message.parts.called, Some(Digits { count: 1, value: 8 }));
+        assert_eq!(message.parts.duration, Some(40));
+    }
+}

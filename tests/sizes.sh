@@ -1,0 +1,50 @@
+#!/bin/sh
+# sizes.sh PROGRAM: a listing program at the edges of its sizes. Files of 65,535, 65,536 and 65,537 bytes whose listing fits, and
+# files whose listing has 65,535, 65,536 and 65,537 bytes.
+set -eu
+program=$1
+room=$(mktemp -d)
+trap 'rm -rf "$room"' EXIT
+fail=0
+expect() { # WHAT FILE LENGTH-OF-LISTING-OR-0 LAST-LINE
+    "$program" <"$2" >"$room/got" || true
+    got=$(wc -c <"$room/got")
+    last=$(tail -n 1 "$room/got")
+    if { [ "$3" -ne 0 ] && [ "$got" -ne "$3" ]; } || [ "$last" != "$4" ]; then
+        echo "sizes: $1: $got bytes, last line '$last'; expected ${3#0} bytes, '$4'"
+        fail=1
+    else
+        echo "sizes: $1: as expected ($got bytes, '$last')"
+    fi
+}
+repeat() { # COUNT ESCAPES: the bytes so many times
+    BYTES=$2 awk -v n="$1" 'BEGIN { for (i = 0; i < n; i++) printf "%s", ENVIRON["BYTES"] }' >"$room/escapes"
+    printf "$(cat "$room/escapes")"
+}
+# 2,114 FAC messages with both numbers and a Duration (31 bytes each) are 65,534 bytes; before the opening each gets 1
+n='\001\001\000\000\000\000\000\000\000'
+message='\035\000\003\000\005\000\000\000\160'$n$n'\001\000\000\000'
+for part in 1 2; do
+    repeat 1057 "$message"
+done >"$room/most"
+{ cat "$room/most"; printf '\002'; } >"$room/file"
+expect "a file of 65,535 bytes" "$room/file" 0 "END 2115"
+{ cat "$room/most"; printf '\002\000'; } >"$room/file"
+expect "a file of 65,536 bytes" "$room/file" 0 "END 2115"
+{ cat "$room/most"; printf '\002\000\005'; } >"$room/file"
+expect "a file of 65,537 bytes" "$room/file" 10 "REFUSED 8"
+# 2,896 records: expiries before the opening, an opening, a basic call, and so many times in SETUP, each a byte longer in the listing
+for times in 12 13 14; do
+    {
+        repeat $((2894 - times)) '\002\000\005\000'
+        printf '\015\000\001\000\000\010\001\001\000\000\000\000\000\000\000'
+        printf '\014\000\002\000\000\001\001\000\000\000\000\000\000\000'
+        repeat $times '\006\000\006\000\000\000\000\000'
+    } >"$room/file"
+    length=$((65523 + times))
+    case $times in
+    14) expect "a listing of 65,537 bytes" "$room/file" 10 "REFUSED 8" ;;
+    *) expect "a listing of $length bytes" "$room/file" $length "END 2896" ;;
+    esac
+done
+exit $fail
