@@ -40,6 +40,11 @@ pub turn-end : (old : List ℕ) (to : ℕ) (p : Place) (f rd : Read) → f ≡ r
 unfolding textOf nextOf
 turn-end old to p f rd g e = rw (sym g ∙ e) (record { put = put-none old to; most = omega arith; moves = refl })
 
+pub show-as : (old new : List ℕ) (to end at : ℕ) (p : Place) (o : Outcome) (more : Bool) → Put old to (recordText (p .count + 1) o) new end → end ≤ to + longestRecord
+    → TurnIs old to (recordText (p .count + 1) o) (placeAfter p o at more) new (record { to = end; place = record { more = more; at = at; count = p .count + 1; call = o .call } })
+unfolding placeAfter
+show-as old new to end at p o more h m = record { put = h; most = m; moves = refl }
+
 -- ---- where a turn leads
 
 record Moved (n : ℕ) (p q : Place) : Type 0 where

@@ -1,8 +1,11 @@
--- Worked files: the definition of the listing computes them.
+-- Worked files, as 01 gives them: the definitions compute.
 -- Assumes nothing.
 use mathlib.Core.Path.{_≡_, refl}
 use mathlib.Core.List.{List, [], _∷_, _++_}
 use Prim.Native.Nat.{ℕ}
+use Rattle.rows.specs.Read.{absent}
+use Rattle.rows.specs.declared.Component.the-variants.{Absent}
+use Rattle.rows.specs.declared.Event.the-variants.{Received, Time}
 use Rattle.text.specs.Choose.{ifLt, ifLe, ifEq, ifSo}
 use Rattle.text.specs.Text.{ascii, lastDigits, decimal, decimalBy, numbered}
 use Rattle.files.specs.Bodies.{openingAt, askAt, componentOf, numberIf, durationIf, messageAt, accessAt, eventAt, readAt}
@@ -11,16 +14,7 @@ use Rattle.files.specs.Frames.{lengthOf, frameOf, frameAt}
 use Rattle.files.specs.Lines.{standText, metersText, lineText, numberedLine, sentText, actionsText, recordText}
 use Rattle.files.specs.Listing.{startPlace, placeAfter, textOf, nextOf, restOf, recordsOf, listingOf}
 use Rattle.files.specs.Messages.{nameText, causeText, operationText, withOperation, textIf, withDigits, partsText, valuesText, messageText}
-
--- 01: "Empty input gives `REV 1` and `END 0`"
-empty : listingOf [] ≡ ascii "REV 1\nEND 0\n"
-unfolding listingOf recordsOf restOf startPlace placeAfter textOf nextOf recordText actionsText sentText numberedLine lineText metersText standText messageText valuesText partsText withDigits textIf withOperation operationText causeText nameText readAt eventAt accessAt messageAt durationIf numberIf componentOf askAt openingAt frameAt frameOf lengthOf numberAt le8At le4At le2At numbered decimal decimalBy lastDigits ifLt ifLe ifEq ifSo
-empty = refl
-
--- 01: "a lone byte gives 5"
-lone-byte : listingOf (6 ∷ []) ≡ ascii "REV 1\n1 5 NONE IDLE 0 0 0\nEND 1\n"
-unfolding listingOf recordsOf restOf startPlace placeAfter textOf nextOf recordText actionsText sentText numberedLine lineText metersText standText messageText valuesText partsText withDigits textIf withOperation operationText causeText nameText readAt eventAt accessAt messageAt durationIf numberIf componentOf askAt openingAt frameAt frameOf lengthOf numberAt le8At le4At le2At numbered decimal decimalBy lastDigits ifLt ifLe ifEq ifSo
-lone-byte = refl
+use Rattle.files.specs.declared.Read.{Read}
 
 -- 01, case L
 case-l : List ℕ
@@ -40,7 +34,16 @@ case-l =
     -- clear
     4 ∷ 0 ∷ 4 ∷ 0 ∷ 4 ∷ 0 ∷ []
 
-listing-l : listingOf case-l
+-- "Sixty seconds are `06 00 06 00 3C 00 00 00`"; "a kind 3 length follows parts 16, 32 and 64 alone": one below 7 is 6, and
+-- part 128 does not change it; "a lone byte gives 5"; "Empty input gives `REV 1` and `END 0`"; case L
+worked :
+    (readAt (6 ∷ 0 ∷ 6 ∷ 0 ∷ 60 ∷ 0 ∷ 0 ∷ 0 ∷ []) 0 ≡ Read.Got (Time 60) 8)
+    × (readAt (6 ∷ 0 ∷ 3 ∷ 0 ∷ 5 ∷ 0 ∷ 0 ∷ 0 ∷ []) 0 ≡ Read.Stop 6)
+    × (readAt (7 ∷ 0 ∷ 3 ∷ 0 ∷ 5 ∷ 0 ∷ 0 ∷ 0 ∷ 128 ∷ []) 0
+    ≡ Read.Got (Received (record { kind = 5; cause = 0; component = Absent 0; parts = 128; calling = absent; called = absent; duration = 0 })) 9)
+    × (listingOf (6 ∷ []) ≡ ascii "REV 1\n1 5 NONE IDLE 0 0 0\nEND 1\n")
+    × (listingOf [] ≡ ascii "REV 1\nEND 0\n")
+    × (listingOf case-l
     ≡ ascii "REV 1\n"
     ++ ascii "1 0 NULL IDLE 0 0 0\n"
     ++ ascii "2 0 SETUP WAIT-SETUP 0 0 0\n"
@@ -55,6 +58,6 @@ listing-l : listingOf case-l
     ++ ascii "7 0 CLEARED IDLE 0 60 0\n"
     ++ ascii "> STOP\n"
     ++ ascii "> REL 16\n"
-    ++ ascii "END 7\n"
+    ++ ascii "END 7\n")
 unfolding case-l listingOf recordsOf restOf startPlace placeAfter textOf nextOf recordText actionsText sentText numberedLine lineText metersText standText messageText valuesText partsText withDigits textIf withOperation operationText causeText nameText readAt eventAt accessAt messageAt durationIf numberIf componentOf askAt openingAt frameAt frameOf lengthOf numberAt le8At le4At le2At numbered decimal decimalBy lastDigits ifLt ifLe ifEq ifSo
-listing-l = refl
+worked = (refl, refl, refl, refl, refl, refl)
