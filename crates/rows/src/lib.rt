@@ -46,6 +46,8 @@ pub struct Number {
     pub value: u64,
 }
 
+const ABSENT: Number = Number { count: 0, value: 0 };
+
 // A message's component, by 01's code: 0 to 4, with the byte that follows (operation or error number, else 0).
 pub enum Component {
     Absent(u8),

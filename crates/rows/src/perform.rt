@@ -2,6 +2,7 @@
 // next, its meters by their change.
 ghost use mathlib.Core.Path.{_≡_};
 ghost use Rattle.rows.specs.Perform.{ifThere, secondsIf, noteOf, sentOf, stoppingOf, actionOf, standOf, roleBy, orHeld, openedOf, withNumbers, sideOf, refusedOf, givenOf, followsOf, doesOf, appliesOf, performOf};
+use crate::ABSENT;
 use crate::Act;
 use crate::Action;
 use crate::Call;
@@ -29,8 +30,6 @@ use crate::read;
 use meters::Metered;
 use meters::Meters;
 use meters::Payer;
-
-const ABSENT: Number = Number { count: 0, value: 0 };
 
 fn if_there(there: bool, n: Number) -> Number
     ensures { λ out. ⌜ out ≡ ifThere there n ⌝ }

@@ -1,6 +1,7 @@
 // What an event says: in one form for all kinds, to the tables that find its row, and to the rows.
 ghost use mathlib.Core.Path.{_≡_};
 ghost use Rattle.rows.specs.Read.{bit, flagsOf, askedOf, toldOf, heardBy, heardOf, kindBy, kindOf, errorOf, plainOf, readMessage, readOf, cueOf, listedOf, orElse, termsOf};
+use crate::ABSENT;
 use crate::Asked;
 use crate::Component;
 use crate::Cue;
@@ -9,7 +10,6 @@ use crate::Flags;
 use crate::Heard;
 use crate::Kind;
 use crate::Message;
-use crate::Number;
 use crate::Reading;
 use crate::Stand;
 use crate::Terms;
@@ -18,8 +18,6 @@ use crate::numbers::FACILITY_REJECTED;
 use crate::numbers::NORMAL_CLEARING;
 use crate::numbers::NOT_AVAILABLE;
 use crate::numbers::REV_ERRORS;
-
-const ABSENT: Number = Number { count: 0, value: 0 };
 
 // 01, kind 1: 1 transfer, 2 subscription option, 4 subscribed, 8 interaction allowed, 16 case D.
 pub fn flags_of(n: u8) -> Flags

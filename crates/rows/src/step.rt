@@ -1,10 +1,10 @@
 // One step of a call.
 ghost use mathlib.Core.Path.{_≡_};
 ghost use Rattle.rows.specs.Step.{unopenedCall, takesOf, stepOf};
+use crate::ABSENT;
 use crate::Call;
 use crate::Event;
 use crate::Flags;
-use crate::Number;
 use crate::Outcome;
 use crate::Phase;
 use crate::RevState;
@@ -18,8 +18,6 @@ use crate::read;
 use crate::rows;
 use crate::valid;
 use meters::Meters;
-
-const ABSENT: Number = Number { count: 0, value: 0 };
 
 impl Call {
     // A call before its opening.
