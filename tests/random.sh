@@ -9,10 +9,7 @@ for tool in cc cargo; do
         exit 0
     fi
 done
-. host/kit.sh
-[ -f target/staticlib/libfiles.a ] || rt staticlib files >target/staticlib.log 2>&1 || { cat target/staticlib.log; exit 1; }
-mkdir -p target/host
-build_x86_64 target/host/batch host/c/batch.c target/staticlib/libfiles.a
+sh host/c/build
 cargo build --quiet --release --offline --manifest-path host/reference/Cargo.toml --target-dir target/reference
 cat >target/host/serve <<'SERVE'
 #!/bin/sh
