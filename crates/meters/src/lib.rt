@@ -73,7 +73,7 @@ impl Meters {
         }
     }
 
-    // Seconds onto each meter, unless the sum would then pass the limit. The one sum in this crate.
+    // Seconds onto each meter, unless the sum would then pass the limit. Only here does a meter grow.
     fn adds(self, caller: u32, called: u32, far: u32) -> Metered
         ensures { λ out. ⌜ out ≡ addsOf self caller called far ⌝ }
     {

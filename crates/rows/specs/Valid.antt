@@ -26,6 +26,7 @@ use Rattle.rows.specs.declared.Event.the-variants.{Opening, Ask, Receive
 
 -- ---- 9: a call that a host hands in. The table of phases and REV states
 
+-- NONE, NULL, CLEARED: IDLE
 abbrev pub idleOnly : RevState → Bool
 idleOnly Idle = true
 idleOnly WaitSetup = false
@@ -36,6 +37,7 @@ idleOnly WaitSetupConf = false
 idleOnly WaitActiveConf = false
 idleOnly WaitCalled = false
 
+-- SETUP, originating: IDLE, WAIT-SETUP, WAIT-ANSWER
 abbrev pub originatingSetup : RevState → Bool
 originatingSetup Idle = true
 originatingSetup WaitSetup = true
@@ -46,6 +48,7 @@ originatingSetup WaitSetupConf = false
 originatingSetup WaitActiveConf = false
 originatingSetup WaitCalled = false
 
+-- ANSWERED, originating: IDLE, WAIT-ACTIVE, ACTIVE
 abbrev pub originatingAnswered : RevState → Bool
 originatingAnswered Idle = true
 originatingAnswered WaitSetup = false
@@ -56,6 +59,7 @@ originatingAnswered WaitSetupConf = false
 originatingAnswered WaitActiveConf = false
 originatingAnswered WaitCalled = false
 
+-- SETUP, destination: IDLE, WAIT-SETUP-CONF, WAIT-CALLED, WAIT-ANSWER
 abbrev pub destinationSetup : RevState → Bool
 destinationSetup Idle = true
 destinationSetup WaitSetup = false
@@ -66,6 +70,7 @@ destinationSetup WaitSetupConf = true
 destinationSetup WaitActiveConf = false
 destinationSetup WaitCalled = true
 
+-- ANSWERED, destination: IDLE, WAIT-ACTIVE-CONF, WAIT-CALLED, ACTIVE
 abbrev pub destinationAnswered : RevState → Bool
 destinationAnswered Idle = true
 destinationAnswered WaitSetup = false

@@ -20,6 +20,8 @@ pub const IAM: u8 = 1;
 
 pub const ANM: u8 = 2;
 
+pub const CON: u8 = 3;
+
 pub const REL: u8 = 4;
 
 pub const FAC: u8 = 5;

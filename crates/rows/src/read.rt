@@ -14,9 +14,16 @@ use crate::Reading;
 use crate::Stand;
 use crate::Terms;
 use crate::Told;
+use crate::numbers::ANM;
+use crate::numbers::CALLED_REQUEST;
+use crate::numbers::CALLING_REQ_ACTIVE;
+use crate::numbers::CALLING_REQ_SETUP;
+use crate::numbers::CON;
 use crate::numbers::FACILITY_REJECTED;
+use crate::numbers::IAM;
 use crate::numbers::NORMAL_CLEARING;
 use crate::numbers::NOT_AVAILABLE;
+use crate::numbers::REL;
 use crate::numbers::REV_ERRORS;
 
 // 01, kind 1: 1 transfer, 2 subscription option, 4 subscribed, 8 interaction allowed, 16 case D.
@@ -62,12 +69,12 @@ fn heard_by(alone: bool, invoke: bool, result: bool, failure: bool, rejection: b
     Heard {
         alone: alone,
         invoke: invoke,
-        invokesetup: invoke & (n == 1),
-        invokeactive: invoke & (n == 2),
-        invokecalled: invoke & (n == 3),
-        resultsetup: result & (n == 1),
-        resultactive: result & (n == 2),
-        resultcalled: result & (n == 3),
+        invokesetup: invoke & (n == CALLING_REQ_SETUP),
+        invokeactive: invoke & (n == CALLING_REQ_ACTIVE),
+        invokecalled: invoke & (n == CALLED_REQUEST),
+        resultsetup: result & (n == CALLING_REQ_SETUP),
+        resultactive: result & (n == CALLING_REQ_ACTIVE),
+        resultcalled: result & (n == CALLED_REQUEST),
         failure: failure,
         rejection: rejection,
     }
@@ -104,7 +111,7 @@ fn kind_by(iam: bool, answer: bool, rel: bool) -> Kind
 pub fn kind_of(n: u8) -> Kind
     ensures { λ out. ⌜ out ≡ kindOf n ⌝ }
 {
-    kind_by(n == 1, (n == 2) | (n == 3), n == 4)
+    kind_by(n == IAM, (n == ANM) | (n == CON), n == REL)
 }
 
 pub fn error_of(component: Component) -> u8
