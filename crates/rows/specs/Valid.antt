@@ -102,9 +102,11 @@ tenTo n = pickℕ (leb n 15) (10 ^ n) 0
 abbrev pub inRange : Number → Bool
 inRange n = ltb (n .value) (tenTo (n .count))
 
+-- 9: "a meter above 0 before ANSWERED"
 abbrev pub unmetered : Meters → Bool
 unmetered m = eqb (m .caller) 0 && eqb (m .called) 0 && eqb (m .far) 0
 
+-- 9: "a payer outside ANSWERED, or in it at a destination none of called and far"
 abbrev pub payerNobody : Payer → Bool
 payerNobody Nobody = true
 payerNobody Caller = false
@@ -117,6 +119,7 @@ payerThere Caller = false
 payerThere Called = true
 payerThere Far = true
 
+-- 9: "a destination's caller above 0"
 abbrev pub noCaller : Role → Meters → Bool
 noCaller Originating m = true
 noCaller Destination m = eqb (m .caller) 0
@@ -139,6 +142,7 @@ payingOf r Setup p = payerNobody p
 payingOf r Answered p = payingThere r p
 payingOf r Cleared p = payerNobody p
 
+-- 9: "a held number neither absent nor in range"
 abbrev pub numbersHeld : Side → Bool
 numbersHeld s = inRange (s .own) && (inRange (s .calling) && inRange (s .called))
 
@@ -150,21 +154,26 @@ validOf c =
 
 -- ---- 3: a field out of its range
 
+-- "count 1 to 15", value "below 10 to the count"
 abbrev pub numberThere : Number → Bool
 numberThere n = inRange n && leb 1 (n .count)
 
+-- "or 0 with value 0 where stated"
 abbrev pub numberAbsent : Number → Bool
 numberAbsent n = eqb (n .count) 0 && eqb (n .value) 0
 
 abbrev pub numberIf : Bool → Number → Bool
 numberIf b n = (b && numberThere n) || (not b && numberAbsent n)
 
+-- kind 1: role 0 or 1; flags 1 to 16 and their sums; own number
 abbrev pub openingOk : ℕ → ℕ → Number → Bool
 openingOk r f n = leb r 1 && (leb f 31 && numberThere n)
 
+-- kind 2: 0 to 3; "called number for 0 and 1, count 0 for 2 and 3"
 abbrev pub askOk : ℕ → Number → Bool
 askOk q n = leb q 3 && numberIf (leb q 1) n
 
+-- kind 3: "operation (1 SETUP, 2 ACTIVE, 3 CALLED) or error number, else 0"
 abbrev pub componentOk : Component → Bool
 componentOk (Absent n) = eqb n 0
 componentOk (Invoke n) = leb 1 n && leb n 3
@@ -177,12 +186,14 @@ componentOk (Unknown k n) = false
 abbrev pub partsOk : ℕ → Bool
 partsOk p = leb p 127 && (bit 2 p || not (bit 4 p))
 
+-- kind 3: message 1 to 5; cause 0 to 127; a number or Duration that no part names is not there
 abbrev pub messageOk : Message → Bool
 messageOk m =
     (leb 1 (m .kind) && leb (m .kind) 5) && (leb (m .cause) 127 && (componentOk (m .component) && (partsOk (m .parts)
     && (numberIf (bit callingPart (m .parts)) (m .calling) && (numberIf (bit calledPart (m .parts)) (m .called)
     && (bit durationPart (m .parts) || eqb (m .duration) 0))))))
 
+-- kind 4: 1 to 5; "error number, 0 but for 2"
 abbrev pub accessOk : ℕ → ℕ → Bool
 accessOk a n = (leb 1 a && leb a 5) && (eqb a 2 || eqb n 0)
 
