@@ -4,10 +4,11 @@
 use mathlib.Core.List.{List, [], _++_}
 use Prim.Native.Nat.{ℕ}
 use Rattle.meters.specs.declared.Meters.{Meters}
+use Rattle.text.specs.Choose.{ifEq}
 use Rattle.text.specs.Text.{ascii, decimal, numbered}
 use Rattle.rows.specs.declared.Action.{Action}
 use Rattle.rows.specs.declared.Call.{Call}
-use Rattle.rows.specs.declared.Message.{Message}
+use Rattle.rows.specs.declared.Note.{Note}
 use Rattle.rows.specs.declared.Outcome.{Outcome}
 use Rattle.rows.specs.declared.Phase.{Phase}
 use Rattle.rows.specs.declared.RevState.{RevState}
@@ -46,29 +47,29 @@ lineText ordinal number call =
 unfoldable pub numberedLine : List ℕ → ℕ → List ℕ
 numberedLine word n = numbered word n ++ ascii "\n"
 
-unfoldable pub sentText : Message → List ℕ
-sentText m = ascii "> " ++ messageText m ++ ascii "\n"
+unfoldable pub sentText : ℕ → Note → List ℕ
+sentText kind m = ascii "> " ++ messageText kind m ++ ascii "\n"
 
 -- "An action is one of ..; or a message"; Nothing is none
-abbrev pub actionText : Action → List ℕ
-actionText Action.Nothing = []
-actionText Action.NotifyAccepted = ascii "> NOTIFY ACCEPTED\n"
-actionText Action.AccessSetup = ascii "> ACCESS SETUP\n"
-actionText Action.AccessAsk = ascii "> ACCESS ASK\n"
-actionText (Action.AccessError n) = numberedLine (ascii "> ACCESS ERROR ") n
-actionText (Action.AccessRel cause) = numberedLine (ascii "> ACCESS REL ") cause
-actionText Action.ChargeCalling = ascii "> CHARGE CALLING\n"
-actionText Action.ChargeCalled = ascii "> CHARGE CALLED\n"
-actionText Action.Stop = ascii "> STOP\n"
-actionText (Action.Send m) = sentText m
+abbrev pub actionText : Note → Action → List ℕ
+actionText m Action.Nothing = []
+actionText m Action.NotifyAccepted = ascii "> NOTIFY ACCEPTED\n"
+actionText m Action.AccessSetup = ascii "> ACCESS SETUP\n"
+actionText m Action.AccessAsk = ascii "> ACCESS ASK\n"
+actionText m (Action.AccessError n) = numberedLine (ascii "> ACCESS ERROR ") n
+actionText m (Action.AccessRel cause) = numberedLine (ascii "> ACCESS REL ") cause
+actionText m Action.ChargeCalling = ascii "> CHARGE CALLING\n"
+actionText m Action.ChargeCalled = ascii "> CHARGE CALLED\n"
+actionText m Action.Stop = ascii "> STOP\n"
+actionText m (Action.Send kind) = sentText kind m
 
 unfoldable pub actionsText : Outcome → List ℕ
-actionsText o = actionText (o .first) ++ actionText (o .second) ++ actionText (o .third) ++ actionText (o .fourth)
+actionsText o = actionText (o .note) (o .first) ++ actionText (o .note) (o .second) ++ actionText (o .note) (o .third) ++ actionText (o .note) (o .fourth)
 
--- a record's line and its actions
+-- a record's line and, where a row was applied, its actions
 unfoldable pub recordText : ℕ → Outcome → List ℕ
-recordText ordinal o = lineText ordinal (o .number) (o .call) ++ actionsText o
+recordText ordinal o = lineText ordinal (o .number) (o .call) ++ ifEq (o .number) 0 (actionsText o) []
 
 -- no record's text is longer
 abbrev pub longestRecord : ℕ
-longestRecord = 2727
+longestRecord = 2557

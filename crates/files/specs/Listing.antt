@@ -1,52 +1,42 @@
 -- The listing of a file: a list of bytes computed from the file's bytes.
 -- Assumes nothing.
-use mathlib.Core.Path.{_≡_}
-use mathlib.Core.Bool.{Bool, true, false}
 use mathlib.Core.List.{List, [], _++_}
-use Prim.Native.Nat.{ℕ, zero, suc, _+_, _≤_}
+use Prim.Native.Nat.{ℕ, zero, suc, _+_}
 use lib.ListN.{length, drop}
-use Rattle.text.specs.Choose.{ifLt, ifSo}
-use Rattle.text.specs.Text.{ascii, Put}
+use Rattle.text.specs.Choose.{ifLt}
+use Rattle.text.specs.Text.{ascii}
 use Rattle.rows.specs.Perform.{refusedOf}
 use Rattle.rows.specs.Step.{stepOf, unopenedCall}
+use Rattle.rows.specs.declared.Call.{Call}
 use Rattle.rows.specs.declared.Outcome.{Outcome}
 use Rattle.files.specs.Bodies.{readAt}
-use Rattle.files.specs.Lines.{numberedLine, recordText, longestRecord}
+use Rattle.files.specs.Lines.{numberedLine, recordText}
 use Rattle.files.specs.declared.Read.{Read}
-use Rattle.files.specs.declared.listing.Place.{Place}
-use Rattle.files.specs.declared.listing.Turn.{Turn}
 
--- a call before its opening, at the file's first byte
-unfoldable pub startPlace : Place
-startPlace = record { more = true; at = 0; count = 0; call = unopenedCall }
+-- The answer to what stands at a place of a file. Where nothing stands there is nothing to answer; no listing asks for it.
+unfoldable pub answerOf : Read → Call → Outcome
+answerOf Read.End c = refusedOf 0 c
+answerOf (Read.Stop n) c = refusedOf n c
+answerOf (Read.Got e next) c = stepOf c e
 
--- after one more record: the place in the file, whether reading goes on, and the call that the answer gives back
-unfoldable pub placeAfter : Place → Outcome → ℕ → Bool → Place
-placeAfter p o at more = record { more = more; at = at; count = p .count + 1; call = o .call }
+-- The place after it. 01: "After 5, 6 or 7 that record's line is shown, then END": reading stops, as at the end of the file.
+unfoldable pub placeAfter : Read → ℕ → ℕ
+placeAfter Read.End end = end
+placeAfter (Read.Stop n) end = end
+placeAfter (Read.Got e next) end = next
 
--- what is shown of what was read: 01: "After 5, 6 or 7 that record's line is shown, then END"
-unfoldable pub textOf : Read → Place → List ℕ
-textOf Read.End p = []
-textOf (Read.Stop n) p = recordText (p .count + 1) (refusedOf n (p .call))
-textOf (Read.Got e next) p = recordText (p .count + 1) (stepOf (p .call) e)
+-- From a place on, in at most k turns, n records shown before it and the call as they left it: record by record, and "last `END`
+-- and the count of records shown".
+unfoldable pub restOf : ℕ → List ℕ → ℕ → ℕ → Call → List ℕ
+restOf zero s at n c = []
+restOf (suc k) s at n c =
+    ifLt at (length s)
+    (recordText (n + 1) (answerOf (readAt s at) c) ++ restOf k s (placeAfter (readAt s at) (length s)) (n + 1) (answerOf (readAt s at) c .call))
+    (numberedLine (ascii "END ") n)
 
--- where that leaves the listing
-unfoldable pub nextOf : Read → Place → Place
-nextOf Read.End p = record { more = false; at = p .at; count = p .count; call = p .call }
-nextOf (Read.Stop n) p = placeAfter p (refusedOf n (p .call)) (p .at) false
-nextOf (Read.Got e next) p = placeAfter p (stepOf (p .call) e) next true
-
--- from a place on, in at most k turns: record by record, and "last `END` and the count of records shown"
-unfoldable pub restOf : ℕ → List ℕ → Place → List ℕ
-restOf zero s p = []
-restOf (suc k) s p =
-    ifSo (p .more)
-    (textOf (readAt s (p .at)) p ++ restOf k s (nextOf (readAt s (p .at)) p))
-    (numberedLine (ascii "END ") (p .count))
-
--- a record has 4 bytes at least, so a file of n bytes has at most n records; a turn for its end, and one for END
+-- from the first byte, with a call before its opening; a file of n bytes has at most n records, and END takes a turn
 unfoldable pub recordsOf : List ℕ → List ℕ
-recordsOf s = restOf (length s + 2) s startPlace
+recordsOf s = restOf (length s + 1) s 0 0 unopenedCall
 
 unfoldable pub listingOf : List ℕ → List ℕ
 listingOf s = ascii "REV 1\n" ++ recordsOf s
@@ -71,9 +61,3 @@ leaves s out =
     ifLt longest (length s) out
     (ifLt (length out) (length (listingOf s)) out
     (listingOf s ++ drop (length (listingOf s)) out))
-
--- One turn of the listing: `text` was put, and r says where that leaves the buffer and the listing.
-pub record TurnIs (old : List ℕ) (to : ℕ) (text : List ℕ) (place : Place) (new : List ℕ) (r : Turn) : Type 0 where
-  pub put : Put old to text new (r .to)
-  pub most : r .to ≤ to + longestRecord
-  pub moves : r .place ≡ place

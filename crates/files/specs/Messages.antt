@@ -6,7 +6,7 @@ use Rattle.text.specs.Choose.{ifEq}
 use Rattle.text.specs.Text.{ascii, lastDigits, numbered}
 use Rattle.rows.specs.declared.Component.{Component}
 use Rattle.rows.specs.declared.Component.the-variants.{Absent, Invoke, Result, Error, Reject, Unknown}
-use Rattle.rows.specs.declared.Message.{Message}
+use Rattle.rows.specs.declared.Note.{Note}
 use Rattle.rows.specs.declared.Number.{Number}
 use Rattle.files.specs.Bytes.{part}
 
@@ -51,12 +51,12 @@ partsText parts =
     ++ textIf (part parts 8) (ascii " PARTIAL")
 
 -- "CALLING and digits, CALLED and digits, DURATION and seconds"
-unfoldable pub valuesText : Message → List ℕ
+unfoldable pub valuesText : Note → List ℕ
 valuesText m =
     textIf (part (m .parts) 16) (withDigits (ascii " CALLING ") (m .calling))
     ++ textIf (part (m .parts) 32) (withDigits (ascii " CALLED ") (m .called))
     ++ textIf (part (m .parts) 64) (numbered (ascii " DURATION ") (m .duration))
 
-unfoldable pub messageText : Message → List ℕ
-messageText m =
-    nameText (m .kind) ++ causeText (m .kind) (m .cause) ++ componentText (m .component) ++ partsText (m .parts) ++ valuesText m
+unfoldable pub messageText : ℕ → Note → List ℕ
+messageText kind m =
+    nameText kind ++ causeText kind (m .cause) ++ componentText (m .component) ++ partsText (m .parts) ++ valuesText m

@@ -1,6 +1,7 @@
 // Fields of a file, least byte first. A place past the end reads as 0.
 ghost use mathlib.Core.Path.{_≡_};
 ghost use Prim.Native.Nat.{_+_, _<_, _^_};
+ghost use lib.ListN.{length};
 ghost use Rattle.files.specs.Bytes.{byteAt, le2At, le4At, le8At, numberAt};
 use rows::Number;
 
@@ -25,10 +26,35 @@ fn wider(x: u32) -> u64
     x as u64
 }
 
+// Bytes that are there: no test of each, so that a field is read at once.
+fn two(s: &[u8], i: usize) -> u32
+    requires { ⌜ i + 1 < length (now s) ⌝ }
+    ensures { λ r. ⌜ (r ≡ le2At (now (s .entry)) i) × (r < 65536) ⌝ }
+{
+    wide(s[i]) + 256 * wide(s[i + 1])
+}
+
+fn four(s: &[u8], i: usize) -> u32
+    requires { ⌜ i + 3 < length (now s) ⌝ }
+    ensures { λ r. ⌜ r ≡ le4At (now (s .entry)) i ⌝ }
+{
+    two(s, i) + 65536 * two(s, i + 2)
+}
+
+fn eight(s: &[u8], i: usize) -> u64
+    requires { ⌜ i + 7 < length (now s) ⌝ }
+    ensures { λ r. ⌜ r ≡ le8At (now (s .entry)) i ⌝ }
+{
+    wider(four(s, i)) + 4294967296 * wider(four(s, i + 4))
+}
+
 pub fn le2(s: &[u8], i: usize) -> u32
     requires { ⌜ i + 1 < 2 ^ 64 ⌝ }
     ensures { λ r. ⌜ (r ≡ le2At (now (s .entry)) i) × (r < 65536) ⌝ }
 {
+    if i + 1 < s.len() {
+        return two(s, i);
+    }
     wide(byte(s, i)) + 256 * wide(byte(s, i + 1))
 }
 
@@ -36,6 +62,9 @@ pub fn le4(s: &[u8], i: usize) -> u32
     requires { ⌜ i + 3 < 2 ^ 64 ⌝ }
     ensures { λ r. ⌜ r ≡ le4At (now (s .entry)) i ⌝ }
 {
+    if i + 3 < s.len() {
+        return four(s, i);
+    }
     le2(s, i) + 65536 * le2(s, i + 2)
 }
 
@@ -43,6 +72,9 @@ fn le8(s: &[u8], i: usize) -> u64
     requires { ⌜ i + 7 < 2 ^ 64 ⌝ }
     ensures { λ r. ⌜ r ≡ le8At (now (s .entry)) i ⌝ }
 {
+    if i + 7 < s.len() {
+        return eight(s, i);
+    }
     wider(le4(s, i)) + 4294967296 * wider(le4(s, i + 4))
 }
 

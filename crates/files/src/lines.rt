@@ -7,7 +7,7 @@ use crate::messages::put_message;
 use meters::Meters;
 use rows::Action;
 use rows::Call;
-use rows::Message;
+use rows::Note;
 use rows::Outcome;
 use rows::Phase;
 use rows::RevState;
@@ -58,90 +58,94 @@ fn put_stand(out: &mut [u8], at: usize, stand: Stand) -> usize
 fn put_meters(out: &mut [u8], at: usize, m: Meters) -> usize
     requires { ⌜ at < 2 ^ 59 ⌝ }
     ensures { λ r. ⌜ Put (now (out .entry)) at (metersText m) (now (out .exit)) r ⌝ }
-    ensures { λ r. ⌜ r ≤ at + 63 ⌝ }
+    ensures { λ r. ⌜ r ≤ at + 33 ⌝ }
 {
-    let mut to = text::put_numbered(out, at, b" ", m.caller as u64);
-    to = text::put_numbered(out, to, b" ", m.called as u64);
-    text::put_numbered(out, to, b" ", m.far as u64)
+    let mut to = text::put_numbered(out, at, b" ", m.caller);
+    to = text::put_numbered(out, to, b" ", m.called);
+    text::put_numbered(out, to, b" ", m.far)
 }
 
 // A record's line: its ordinal, its number, and the call after it.
-fn put_line(out: &mut [u8], at: usize, ordinal: u64, number: u8, call: Call) -> usize
+fn put_line(out: &mut [u8], at: usize, ordinal: u32, number: u8, call: Call) -> usize
     requires { ⌜ at < 2 ^ 58 ⌝ }
     ensures { λ r. ⌜ Put (now (out .entry)) at (lineText ordinal number call) (now (out .exit)) r ⌝ }
-    ensures { λ r. ⌜ r ≤ at + 131 ⌝ }
+    ensures { λ r. ⌜ r ≤ at + 81 ⌝ }
 {
     let stand = call.stand;
     let meters = call.meters;
     let mut to = text::put_dec(out, at, ordinal);
-    to = text::put_numbered(out, to, b" ", number as u64);
+    to = text::put_numbered(out, to, b" ", number as u32);
     to = put_stand(out, to, stand);
     to = put_meters(out, to, meters);
     text::put(out, to, b'\n')
 }
 
 // A word, a number, and the end of the line.
-pub fn put_numbered_line(out: &mut [u8], at: usize, word: &[u8], n: u64) -> usize
+pub fn put_numbered_line(out: &mut [u8], at: usize, word: &[u8], n: u32) -> usize
     requires { ⌜ at + length (now word) < 2 ^ 61 ⌝ }
     ensures { λ r. ⌜ Put (now (out .entry)) at (numberedLine (now (word .entry)) n) (now (out .exit)) r ⌝ }
-    ensures { λ r. ⌜ r ≤ at + length (now (word .entry)) + 21 ⌝ }
+    ensures { λ r. ⌜ r ≤ at + length (now (word .entry)) + 11 ⌝ }
 {
     let to = text::put_numbered(out, at, word, n);
     text::put(out, to, b'\n')
 }
 
-fn put_sent(out: &mut [u8], at: usize, m: Message) -> usize
+fn put_sent(out: &mut [u8], at: usize, kind: u8, m: Note) -> usize
     requires { ⌜ at < 2 ^ 58 ⌝ }
-    ensures { λ r. ⌜ Put (now (out .entry)) at (sentText m) (now (out .exit)) r ⌝ }
-    ensures { λ r. ⌜ r ≤ at + 649 ⌝ }
+    ensures { λ r. ⌜ Put (now (out .entry)) at (sentText kind m) (now (out .exit)) r ⌝ }
+    ensures { λ r. ⌜ r ≤ at + 619 ⌝ }
 {
     let mut to = text::put_word(out, at, b"> ");
-    to = put_message(out, to, m);
+    to = put_message(out, to, kind, m);
     text::put(out, to, b'\n')
 }
 
-// An action's line; none for Nothing.
-fn put_action(out: &mut [u8], at: usize, a: Action) -> usize
+// An action's line, or its message's with what it carries; none for Nothing.
+fn put_action(out: &mut [u8], at: usize, a: Action, m: Note) -> usize
     requires { ⌜ at < 2 ^ 58 ⌝ }
-    ensures { λ r. ⌜ Put (now (out .entry)) at (actionText a) (now (out .exit)) r ⌝ }
-    ensures { λ r. ⌜ r ≤ at + 649 ⌝ }
+    ensures { λ r. ⌜ Put (now (out .entry)) at (actionText m a) (now (out .exit)) r ⌝ }
+    ensures { λ r. ⌜ r ≤ at + 619 ⌝ }
 {
     match a {
         Action::Nothing => at,
         Action::NotifyAccepted => text::put_word(out, at, b"> NOTIFY ACCEPTED\n"),
         Action::AccessSetup => text::put_word(out, at, b"> ACCESS SETUP\n"),
         Action::AccessAsk => text::put_word(out, at, b"> ACCESS ASK\n"),
-        Action::AccessError(n) => put_numbered_line(out, at, b"> ACCESS ERROR ", n as u64),
-        Action::AccessRel(cause) => put_numbered_line(out, at, b"> ACCESS REL ", cause as u64),
+        Action::AccessError(n) => put_numbered_line(out, at, b"> ACCESS ERROR ", n as u32),
+        Action::AccessRel(cause) => put_numbered_line(out, at, b"> ACCESS REL ", cause as u32),
         Action::ChargeCalling => text::put_word(out, at, b"> CHARGE CALLING\n"),
         Action::ChargeCalled => text::put_word(out, at, b"> CHARGE CALLED\n"),
         Action::Stop => text::put_word(out, at, b"> STOP\n"),
-        Action::Send(m) => put_sent(out, at, m),
+        Action::Send(kind) => put_sent(out, at, kind, m),
     }
 }
 
 fn put_actions(out: &mut [u8], at: usize, o: Outcome) -> usize
     requires { ⌜ at < 2 ^ 57 ⌝ }
     ensures { λ r. ⌜ Put (now (out .entry)) at (actionsText o) (now (out .exit)) r ⌝ }
-    ensures { λ r. ⌜ r ≤ at + 2596 ⌝ }
+    ensures { λ r. ⌜ r ≤ at + 2476 ⌝ }
 {
+    let m = o.note;
     let first = o.first;
     let second = o.second;
     let third = o.third;
     let fourth = o.fourth;
-    let mut to = put_action(out, at, first);
-    to = put_action(out, to, second);
-    to = put_action(out, to, third);
-    put_action(out, to, fourth)
+    let mut to = put_action(out, at, first, m);
+    to = put_action(out, to, second, m);
+    to = put_action(out, to, third, m);
+    put_action(out, to, fourth, m)
 }
 
-// A record's line and its actions.
-pub fn put_record(out: &mut [u8], at: usize, ordinal: u64, o: Outcome) -> usize
+// A record's line and, where a row was applied, its actions.
+pub fn put_record(out: &mut [u8], at: usize, ordinal: u32, o: Outcome) -> usize
     requires { ⌜ at < 2 ^ 56 ⌝ }
     ensures { λ r. ⌜ Put (now (out .entry)) at (recordText ordinal o) (now (out .exit)) r ⌝ }
     ensures { λ r. ⌜ r ≤ at + longestRecord ⌝ }
 {
     let call = o.call;
-    let to = put_line(out, at, ordinal, o.number, call);
-    put_actions(out, to, o)
+    let end = put_line(out, at, ordinal, o.number, call);
+    if o.number == 0 {
+        return put_actions(out, end, o);
+    }
+    end
 }

@@ -1,11 +1,9 @@
 // The listing of a file: every record's line and actions, from one call that each event steps on.
 ghost use mathlib.Core.Path.{_≡_};
-ghost use Prim.Native.Nat.{_+_, _≤_, _<_, _^_};
+ghost use Prim.Native.Nat.{_≤_};
 ghost use lib.ListN.{length};
 ghost use Rattle.text.specs.Text.{Put};
-ghost use Rattle.files.specs.Bodies.{readAt};
-ghost use Rattle.files.specs.Lines.{recordText};
-ghost use Rattle.files.specs.Listing.{startPlace, placeAfter, textOf, nextOf, TurnIs, longest, listingOf, answers, leaves};
+ghost use Rattle.files.specs.Listing.{answerOf, placeAfter, longest, listingOf, answers, leaves};
 use crate::Read;
 use crate::bodies::read_at;
 use crate::lines::put_numbered_line;
@@ -18,69 +16,25 @@ const LONGEST: usize = 65536;
 
 const TOO_LONG: usize = 8;
 
-// Where the listing stands: whether reading goes on, the place in the file, the count of records shown, the call.
-struct Place {
-    more: bool,
-    at: usize,
-    count: u64,
-    call: Call,
-}
-
-// What one turn gives: the place in the buffer, and where the listing then stands.
-struct Turn {
-    to: usize,
-    place: Place,
-}
-
-fn start() -> Place
-    ensures { λ r. ⌜ r ≡ startPlace ⌝ }
+// The answer to what stands at a place: a record that cannot be read is refused with its number.
+fn answer(found: Read, call: Call) -> Outcome
+    ensures { λ r. ⌜ r ≡ answerOf found call ⌝ }
 {
-    let call = Call::unopened();
-    Place {
-        more: true,
-        at: 0,
-        count: 0,
-        call,
+    match found {
+        Read::End => call.refused(0),
+        Read::Stop(number) => call.refused(number),
+        Read::Got(e, _) => call.step(e),
     }
 }
 
-// One more record is shown, with the answer to it.
-fn show(out: &mut [u8], to: usize, p: Place, o: Outcome, at: usize, more: bool) -> Turn
-    requires { ⌜ (to < 2 ^ 56) × (p .count < 2 ^ 56) ⌝ }
-    ensures { λ r. ⌜ TurnIs (now (out .entry)) to (recordText (p .count + 1) o) (placeAfter p o at more) (now (out .exit)) r ⌝ }
+// The place after it: reading stops at a record that cannot be read, so that is the file's end.
+fn place_after(found: Read, end: usize) -> usize
+    ensures { λ r. ⌜ r ≡ placeAfter found end ⌝ }
 {
-    let count = p.count + 1;
-    let end = put_record(out, to, count, o);
-    let call = o.call;
-    let place = Place {
-        more,
-        at,
-        count,
-        call,
-    };
-    Turn { to: end, place }
-}
-
-// One record: its text is put, and the place moves on; where reading stops it stays.
-fn one_record(file: &[u8], out: &mut [u8], to: usize, p: Place) -> Turn
-    requires { ⌜ (to < 2 ^ 56) × (p .count < 2 ^ 56) ⌝ }
-    ensures { λ r. ⌜ TurnIs (now (out .entry)) to (textOf (readAt (now (file .entry)) (p .at)) p) (nextOf (readAt (now (file .entry)) (p .at)) p) (now (out .exit)) r ⌝ }
-{
-    let at = p.at;
-    let call = p.call;
-    let found = read_at(file, at);
     match found {
-        Read::End => {
-            let place = Place {
-                more: false,
-                at,
-                count: p.count,
-                call,
-            };
-            Turn { to, place }
-        }
-        Read::Stop(number) => show(out, to, p, call.refused(number), at, false),
-        Read::Got(e, next) => show(out, to, p, call.step(e), next, true),
+        Read::End => end,
+        Read::Stop(_) => end,
+        Read::Got(_, next) => next,
     }
 }
 
@@ -90,13 +44,18 @@ fn write(file: &[u8], out: &mut [u8]) -> usize
     ensures { λ r. ⌜ Put (now (out .entry)) 0 (listingOf (now (file .entry))) (now (out .exit)) r ⌝ }
 {
     let mut to = text::put_word(out, 0, b"REV 1\n");
-    let mut place = start();
-    while place.more {
-        let t = one_record(file, out, to, place);
-        to = t.to;
-        place = t.place;
+    let mut at: usize = 0;
+    let mut count: u32 = 0;
+    let mut call = Call::unopened();
+    while at < file.len() {
+        let found = read_at(file, at);
+        let o = answer(found, call);
+        count += 1;
+        to = put_record(out, to, count, o);
+        at = place_after(found, file.len());
+        call = o.call;
     }
-    put_numbered_line(out, to, b"END ", place.count)
+    put_numbered_line(out, to, b"END ", count)
 }
 
 // The listing of a file in a buffer of any size: its length; or 8, and the buffer as it was.

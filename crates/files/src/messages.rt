@@ -4,7 +4,7 @@ ghost use lib.ListN.{length};
 ghost use Rattle.text.specs.Text.{Put, ascii, numbered};
 ghost use Rattle.files.specs.Messages.{nameText, causeText, operationText, withOperation, componentText, textIf, withDigits, partsText, valuesText, messageText};
 use rows::Component;
-use rows::Message;
+use rows::Note;
 use rows::Number;
 
 fn put_name(out: &mut [u8], at: usize, kind: u8) -> usize
@@ -30,10 +30,10 @@ fn put_name(out: &mut [u8], at: usize, kind: u8) -> usize
 fn put_cause(out: &mut [u8], at: usize, kind: u8, cause: u8) -> usize
     requires { ⌜ at < 2 ^ 60 ⌝ }
     ensures { λ r. ⌜ Put (now (out .entry)) at (causeText kind cause) (now (out .exit)) r ⌝ }
-    ensures { λ r. ⌜ r ≤ at + 21 ⌝ }
+    ensures { λ r. ⌜ r ≤ at + 11 ⌝ }
 {
     if kind == 4 {
-        return text::put_numbered(out, at, b" ", cause as u64);
+        return text::put_numbered(out, at, b" ", cause as u32);
     }
     at
 }
@@ -66,13 +66,13 @@ fn put_with_operation(out: &mut [u8], at: usize, word: &[u8], operation: u8) -> 
 fn put_component(out: &mut [u8], at: usize, component: Component) -> usize
     requires { ⌜ at < 2 ^ 60 ⌝ }
     ensures { λ r. ⌜ Put (now (out .entry)) at (componentText component) (now (out .exit)) r ⌝ }
-    ensures { λ r. ⌜ r ≤ at + 27 ⌝ }
+    ensures { λ r. ⌜ r ≤ at + 17 ⌝ }
 {
     match component {
         Component::Absent(_) => at,
         Component::Invoke(operation) => put_with_operation(out, at, b" INVOKE", operation),
         Component::Result(operation) => put_with_operation(out, at, b" RESULT", operation),
-        Component::Error(n) => text::put_numbered(out, at, b" ERROR ", n as u64),
+        Component::Error(n) => text::put_numbered(out, at, b" ERROR ", n as u32),
         Component::Reject(_) => at,
         Component::Unknown(_, _) => at,
     }
@@ -116,10 +116,10 @@ fn put_digits_if(out: &mut [u8], at: usize, present: u8, word: &[u8], n: Number)
 fn put_duration_if(out: &mut [u8], at: usize, present: u8, seconds: u32) -> usize
     requires { ⌜ at < 2 ^ 61 ⌝ }
     ensures { λ r. ⌜ Put (now (out .entry)) at (textIf present (numbered (ascii " DURATION ") seconds)) (now (out .exit)) r ⌝ }
-    ensures { λ r. ⌜ r ≤ at + 30 ⌝ }
+    ensures { λ r. ⌜ r ≤ at + 20 ⌝ }
 {
     if present == 1 {
-        return text::put_numbered(out, at, b" DURATION ", seconds as u64);
+        return text::put_numbered(out, at, b" DURATION ", seconds);
     }
     at
 }
@@ -137,10 +137,10 @@ fn put_parts(out: &mut [u8], at: usize, parts: u8) -> usize
 }
 
 // The parts that have a value.
-fn put_values(out: &mut [u8], at: usize, m: Message) -> usize
+fn put_values(out: &mut [u8], at: usize, m: Note) -> usize
     requires { ⌜ at < 2 ^ 60 ⌝ }
     ensures { λ r. ⌜ Put (now (out .entry)) at (valuesText m) (now (out .exit)) r ⌝ }
-    ensures { λ r. ⌜ r ≤ at + 557 ⌝ }
+    ensures { λ r. ⌜ r ≤ at + 547 ⌝ }
 {
     let calling = m.calling;
     let called = m.called;
@@ -150,14 +150,15 @@ fn put_values(out: &mut [u8], at: usize, m: Message) -> usize
     put_duration_if(out, to, parts / 64 % 2, m.duration)
 }
 
-pub fn put_message(out: &mut [u8], at: usize, m: Message) -> usize
+// A message of a kind, with what it carries.
+pub fn put_message(out: &mut [u8], at: usize, kind: u8, m: Note) -> usize
     requires { ⌜ at < 2 ^ 59 ⌝ }
-    ensures { λ r. ⌜ Put (now (out .entry)) at (messageText m) (now (out .exit)) r ⌝ }
-    ensures { λ r. ⌜ r ≤ at + 646 ⌝ }
+    ensures { λ r. ⌜ Put (now (out .entry)) at (messageText kind m) (now (out .exit)) r ⌝ }
+    ensures { λ r. ⌜ r ≤ at + 616 ⌝ }
 {
     let component = m.component;
-    let mut to = put_name(out, at, m.kind);
-    to = put_cause(out, to, m.kind, m.cause);
+    let mut to = put_name(out, at, kind);
+    to = put_cause(out, to, kind, m.cause);
     to = put_component(out, to, component);
     to = put_parts(out, to, m.parts);
     put_values(out, to, m)

@@ -3,7 +3,7 @@
 use Prim.Native.Nat.{ℕ}
 use mathlib.Core.Bool.{Bool, true, false}
 use lib.Dec.{eqb, leb}
-use Rattle.rows.specs.Numbers.{applied, tooMuch, nobodyPays, iam, anm, rel, fac, callingPart, calledPart, durationPart}
+use Rattle.rows.specs.Numbers.{applied, tooMuch, nobodyPays, iam, anm, rel, fac, noPart, callingPart, calledPart, durationPart}
 use Rattle.rows.specs.Read.{bit, absent, flagsOf}
 use Rattle.meters.specs.Meters.{changeOf}
 use Rattle.meters.specs.declared.Metered.{Metered}
@@ -15,9 +15,10 @@ use Rattle.rows.specs.declared.Act.{Act}
 use Rattle.rows.specs.declared.Action.{Action}
 use Rattle.rows.specs.declared.Call.{Call}
 use Rattle.rows.specs.declared.Component.{Component}
-use Rattle.rows.specs.declared.Message.{Message}
+use Rattle.rows.specs.declared.Component.the-variants.{Absent}
 use Rattle.rows.specs.declared.Next.{Next}
 use Rattle.rows.specs.declared.Next.the-variants.{Stay, ToNull, ToSetup, ToWaitSetup, ToWaitAnswer, ToWaitAnswerTransfer, ToWaitSetupConf, ToWaitSetupConfTransfer, ToSetupWaitCalled, ToAnswered, ToWaitActive, ToWaitActiveConf, ToWaitActiveConfTransfer, ToWaitCalledRest, ToWaitCalledEntire, ToActive, ToCleared}
+use Rattle.rows.specs.declared.Note.{Note}
 use Rattle.rows.specs.declared.Number.{Number}
 use Rattle.rows.specs.declared.Outcome.{Outcome}
 use Rattle.rows.specs.declared.Phase.{Phase}
@@ -44,10 +45,9 @@ secondsIf true s = s
 secondsIf false s = 0
 
 -- only the own number is ever sent; the Duration is the caller's meter
-abbrev pub noteOf : ℕ → Component → ℕ → Number → ℕ → Message
+abbrev pub noteOf : ℕ → Component → ℕ → Number → ℕ → Note
 noteOf u x p own caller =
     record {
-      kind = 0;
       cause = u;
       component = x;
       parts = p;
@@ -56,9 +56,9 @@ noteOf u x p own caller =
       duration = secondsIf (bit durationPart p) caller;
     }
 
-abbrev pub sentOf : ℕ → Message → Action
-sentOf k m =
-    Action.Send (record { kind = k; cause = m .cause; component = m .component; parts = m .parts; calling = m .calling; called = m .called; duration = m .duration })
+-- a refusal sends nothing
+abbrev pub noNote : Note
+noNote = record { cause = 0; component = Absent 0; parts = noPart; calling = absent; called = absent; duration = 0 }
 
 -- ---- The actions
 
@@ -75,20 +75,21 @@ stoppingOf Called Called = Action.Nothing
 stoppingOf Called Far = Action.Stop
 stoppingOf Far q = Action.Nothing
 
-abbrev pub actionOf : Act → Message → ℕ → Action → Action
-actionOf Act.Nothing m e stop = Action.Nothing
-actionOf Act.NotifyAccepted m e stop = Action.NotifyAccepted
-actionOf Act.AccessSetup m e stop = Action.AccessSetup
-actionOf Act.AccessAsk m e stop = Action.AccessAsk
-actionOf Act.AccessError m e stop = Action.AccessError e
-actionOf Act.AccessRel m e stop = Action.AccessRel (m .cause)
-actionOf Act.ChargeCalling m e stop = Action.ChargeCalling
-actionOf Act.ChargeCalled m e stop = Action.ChargeCalled
-actionOf Act.Stop m e stop = stop
-actionOf Act.SendIam m e stop = sentOf iam m
-actionOf Act.SendAnm m e stop = sentOf anm m
-actionOf Act.SendRel m e stop = sentOf rel m
-actionOf Act.SendFac m e stop = sentOf fac m
+-- by the plan's cause and error; a message is sent by its kind
+abbrev pub actionOf : Act → ℕ → ℕ → Action → Action
+actionOf Act.Nothing u e stop = Action.Nothing
+actionOf Act.NotifyAccepted u e stop = Action.NotifyAccepted
+actionOf Act.AccessSetup u e stop = Action.AccessSetup
+actionOf Act.AccessAsk u e stop = Action.AccessAsk
+actionOf Act.AccessError u e stop = Action.AccessError e
+actionOf Act.AccessRel u e stop = Action.AccessRel u
+actionOf Act.ChargeCalling u e stop = Action.ChargeCalling
+actionOf Act.ChargeCalled u e stop = Action.ChargeCalled
+actionOf Act.Stop u e stop = stop
+actionOf Act.SendIam u e stop = Action.Send iam
+actionOf Act.SendAnm u e stop = Action.Send anm
+actionOf Act.SendRel u e stop = Action.Send rel
+actionOf Act.SendFac u e stop = Action.Send fac
 
 -- ---- Where the call stands next: phase, REV state; pending, transfer agreed and the rest of the call asked for
 
@@ -141,17 +142,18 @@ sideOf CallingNumber s r = withNumbers s (orHeld (leb 1 (r .calling .count)) (r 
 
 -- a refusal: its number, no actions and the call as it stood
 abbrev pub refusedOf : ℕ → Call → Outcome
-refusedOf n c = record { number = n; call = c; first = Action.Nothing; second = Action.Nothing; third = Action.Nothing; fourth = Action.Nothing }
+refusedOf n c = record { number = n; call = c; note = noNote; first = Action.Nothing; second = Action.Nothing; third = Action.Nothing; fourth = Action.Nothing }
 
-abbrev pub givenOf : Plan → Call → Message → Action → Outcome
+abbrev pub givenOf : Plan → Call → Note → Action → Outcome
 givenOf p c m stop =
     record {
       number = applied;
       call = c;
-      first = actionOf (p .first) m (p .error) stop;
-      second = actionOf (p .second) m (p .error) stop;
-      third = actionOf (p .third) m (p .error) stop;
-      fourth = actionOf (p .fourth) m (p .error) stop;
+      note = m;
+      first = actionOf (p .first) (p .cause) (p .error) stop;
+      second = actionOf (p .second) (p .cause) (p .error) stop;
+      third = actionOf (p .third) (p .cause) (p .error) stop;
+      fourth = actionOf (p .fourth) (p .cause) (p .error) stop;
     }
 
 -- the row applied, with the meters that follow; the Duration sent is the caller's meter as it stood before

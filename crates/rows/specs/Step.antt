@@ -13,6 +13,8 @@ use mathlib.Core.List.{List, [], _∷_}
 use Rattle.rows.specs.declared.Action.{Action}
 use Rattle.rows.specs.declared.Call.{Call}
 use Rattle.rows.specs.declared.Event.{Event}
+use Rattle.rows.specs.declared.Message.{Message}
+use Rattle.rows.specs.declared.Note.{Note}
 use Rattle.rows.specs.declared.Outcome.{Outcome}
 use Rattle.rows.specs.declared.Phase.the-variants.{Unopened}
 use Rattle.rows.specs.declared.Reading.{Reading}
@@ -49,18 +51,28 @@ ifCall false c e = refusedOf notACall c
 abbrev pub stepOf : Call → Event → Outcome
 stepOf c e = ifCall (validOf c) c e
 
--- the actions of an answer, in order: where one is Nothing there is none
-abbrev pub andThen : Action → List Action → List Action
-andThen Action.Nothing rest = rest
-andThen Action.NotifyAccepted rest = Action.NotifyAccepted ∷ rest
-andThen Action.AccessSetup rest = Action.AccessSetup ∷ rest
-andThen Action.AccessAsk rest = Action.AccessAsk ∷ rest
-andThen (Action.AccessError n) rest = Action.AccessError n ∷ rest
-andThen (Action.AccessRel n) rest = Action.AccessRel n ∷ rest
-andThen Action.ChargeCalling rest = Action.ChargeCalling ∷ rest
-andThen Action.ChargeCalled rest = Action.ChargeCalled ∷ rest
-andThen Action.Stop rest = Action.Stop ∷ rest
-andThen (Action.Send m) rest = Action.Send m ∷ rest
+-- What goes out: an action of this exchange, or a message with what it carries.
+pub data Deed : Type 0 where
+  does : Action → Deed
+  sends : Message → Deed
 
-abbrev pub actionsOf : Outcome → List Action
-actionsOf o = andThen (o .first) (andThen (o .second) (andThen (o .third) (andThen (o .fourth) [])))
+abbrev pub messageOf : ℕ → Note → Message
+messageOf k m =
+    record { kind = k; cause = m .cause; component = m .component; parts = m .parts; calling = m .calling; called = m .called; duration = m .duration }
+
+-- where an action is Nothing there is none
+abbrev pub andThen : Note → Action → List Deed → List Deed
+andThen m Action.Nothing rest = rest
+andThen m Action.NotifyAccepted rest = does Action.NotifyAccepted ∷ rest
+andThen m Action.AccessSetup rest = does Action.AccessSetup ∷ rest
+andThen m Action.AccessAsk rest = does Action.AccessAsk ∷ rest
+andThen m (Action.AccessError n) rest = does (Action.AccessError n) ∷ rest
+andThen m (Action.AccessRel n) rest = does (Action.AccessRel n) ∷ rest
+andThen m Action.ChargeCalling rest = does Action.ChargeCalling ∷ rest
+andThen m Action.ChargeCalled rest = does Action.ChargeCalled ∷ rest
+andThen m Action.Stop rest = does Action.Stop ∷ rest
+andThen m (Action.Send k) rest = sends (messageOf k m) ∷ rest
+
+-- what an answer does, in order
+abbrev pub deedsOf : Outcome → List Deed
+deedsOf o = andThen (o .note) (o .first) (andThen (o .note) (o .second) (andThen (o .note) (o .third) (andThen (o .note) (o .fourth) [])))

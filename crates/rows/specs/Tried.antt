@@ -8,9 +8,8 @@ use Rattle.meters.specs.declared.Payer.{Payer}
 use Rattle.rows.specs.Numbers.{iam, anm, rel, fac, callingReqSetup, calledRequest, notAvailable, alreadyRunning, normalClearing, facilityRejected, noPart, transferPart, partialPart, callingPart, calledPart, durationPart, agreedParts}
 use Rattle.rows.specs.Perform.{at}
 use Rattle.rows.specs.Read.{absent, flagsOf}
-use Rattle.rows.specs.Step.{unopenedCall, stepOf, actionsOf}
-use Rattle.rows.specs.declared.Action.{Action}
-use Rattle.rows.specs.declared.Action.the-variants.{NotifyAccepted, AccessError, AccessRel, ChargeCalling, ChargeCalled, Stop, Send}
+use Rattle.rows.specs.Step.{unopenedCall, stepOf, Deed, does, sends, deedsOf}
+use Rattle.rows.specs.declared.Action.the-variants.{NotifyAccepted, AccessError, AccessRel, ChargeCalling, ChargeCalled, Stop}
 use Rattle.rows.specs.declared.Call.{Call}
 use Rattle.rows.specs.declared.Component.{Component}
 use Rattle.rows.specs.declared.Component.the-variants.{Absent, Invoke, Result}
@@ -33,14 +32,14 @@ record Line : Type 0 where
   pub caller : ℕ
   pub called : ℕ
   pub far : ℕ
-  pub actions : List Action
+  pub deeds : List Deed
 
-abbrev line : ℕ → Phase → RevState → ℕ → ℕ → ℕ → List Action → Line
-line n p s a b f w = record { number = n; phase = p; rev = s; caller = a; called = b; far = f; actions = w }
+abbrev line : ℕ → Phase → RevState → ℕ → ℕ → ℕ → List Deed → Line
+line n p s a b f w = record { number = n; phase = p; rev = s; caller = a; called = b; far = f; deeds = w }
 
 abbrev lineOf : Outcome → Line
 lineOf o =
-    line (o .number) (o .call .stand .phase) (o .call .stand .rev) (o .call .meters .caller) (o .call .meters .called) (o .call .meters .far) (actionsOf o)
+    line (o .number) (o .call .stand .phase) (o .call .stand .rev) (o .call .meters .caller) (o .call .meters .called) (o .call .meters .far) (deedsOf o)
 
 -- the lines of a history, from a call
 abbrev run : Call → List Event → List Line
@@ -60,20 +59,20 @@ plain k u x = message k u x noPart absent absent 0
 case-l : run unopenedCall
     (Opening 0 8 room ∷ Ask 1 room ∷ Time 8 ∷ Received (plain anm 0 (Result callingReqSetup)) ∷ Time 60 ∷ Ask 2 absent ∷ FromAccess 4 0 ∷ [])
     ≡ line 0 Null Idle 0 0 0 []
-    ∷ line 0 Setup WaitSetup 0 0 0 (Send (plain iam 0 (Invoke callingReqSetup)) ∷ [])
+    ∷ line 0 Setup WaitSetup 0 0 0 (sends (plain iam 0 (Invoke callingReqSetup)) ∷ [])
     ∷ line 0 Setup WaitSetup 0 0 0 []
-    ∷ line 0 Answered Active 0 0 0 (NotifyAccepted ∷ ChargeCalled ∷ [])
+    ∷ line 0 Answered Active 0 0 0 (does NotifyAccepted ∷ does ChargeCalled ∷ [])
     ∷ line 0 Answered Active 0 60 0 []
-    ∷ line 0 Answered Active 0 60 0 (AccessError alreadyRunning ∷ [])
-    ∷ line 0 Cleared Idle 0 60 0 (Stop ∷ Send (plain rel normalClearing (Absent 0)) ∷ [])
+    ∷ line 0 Answered Active 0 60 0 (does (AccessError alreadyRunning) ∷ [])
+    ∷ line 0 Cleared Idle 0 60 0 (does Stop ∷ sends (plain rel normalClearing (Absent 0)) ∷ [])
     ∷ []
 case-l = refl
 
 -- WAIT-SETUP, ANM with no component: cleared, cause 29, all meters 0
 answered-without-word : run unopenedCall (Opening 0 8 room ∷ Ask 1 room ∷ Received (plain anm 0 (Absent 0)) ∷ [])
     ≡ line 0 Null Idle 0 0 0 []
-    ∷ line 0 Setup WaitSetup 0 0 0 (Send (plain iam 0 (Invoke callingReqSetup)) ∷ [])
-    ∷ line 0 Cleared Idle 0 0 0 (AccessError notAvailable ∷ AccessRel facilityRejected ∷ Send (plain rel facilityRejected (Absent 0)) ∷ [])
+    ∷ line 0 Setup WaitSetup 0 0 0 (sends (plain iam 0 (Invoke callingReqSetup)) ∷ [])
+    ∷ line 0 Cleared Idle 0 0 0 (does (AccessError notAvailable) ∷ does (AccessRel facilityRejected) ∷ sends (plain rel facilityRejected (Absent 0)) ∷ [])
     ∷ []
 answered-without-word = refl
 
@@ -86,13 +85,13 @@ forty-twenty flags parts called =
 
 abbrev until-forty : List Line → List Line
 until-forty rest =
-    line 0 Null Idle 0 0 0 [] ∷ line 0 Setup Idle 0 0 0 (Send (plain iam 0 (Absent 0)) ∷ []) ∷ line 0 Answered Idle 0 0 0 (ChargeCalling ∷ [])
+    line 0 Null Idle 0 0 0 [] ∷ line 0 Setup Idle 0 0 0 (sends (plain iam 0 (Absent 0)) ∷ []) ∷ line 0 Answered Idle 0 0 0 (does ChargeCalling ∷ [])
     ∷ line 0 Answered Idle 40 0 0 [] ∷ rest
 
 -- C accepted without transfer: 0, 60, 0
 entire-call : forty-twenty 8 calledPart room
     ≡ until-forty
-    (line 0 Answered Active 0 40 0 (Send (plain fac 0 (Result calledRequest)) ∷ NotifyAccepted ∷ Stop ∷ ChargeCalled ∷ [])
+    (line 0 Answered Active 0 40 0 (sends (plain fac 0 (Result calledRequest)) ∷ does NotifyAccepted ∷ does Stop ∷ does ChargeCalled ∷ [])
     ∷ line 0 Answered Active 0 60 0 []
     ∷ [])
 entire-call = refl
@@ -101,7 +100,7 @@ entire-call = refl
 entire-call-transferred : forty-twenty 9 transferPart absent
     ≡ until-forty
     (line 0 Answered Active 0 0 40
-    (Send (message fac 0 (Result calledRequest) (agreedParts + callingPart + durationPart) room absent 40) ∷ NotifyAccepted ∷ Stop ∷ [])
+    (sends (message fac 0 (Result calledRequest) (agreedParts + callingPart + durationPart) room absent 40) ∷ does NotifyAccepted ∷ does Stop ∷ [])
     ∷ line 0 Answered Active 0 0 60 []
     ∷ [])
 entire-call-transferred = refl
@@ -109,7 +108,7 @@ entire-call-transferred = refl
 -- as B without transfer: 40, 20, 0
 rest-of-call : forty-twenty 8 (partialPart + calledPart) room
     ≡ until-forty
-    (line 0 Answered Active 40 0 0 (Send (plain fac 0 (Result calledRequest)) ∷ NotifyAccepted ∷ Stop ∷ ChargeCalled ∷ [])
+    (line 0 Answered Active 40 0 0 (sends (plain fac 0 (Result calledRequest)) ∷ does NotifyAccepted ∷ does Stop ∷ does ChargeCalled ∷ [])
     ∷ line 0 Answered Active 40 20 0 []
     ∷ [])
 rest-of-call = refl

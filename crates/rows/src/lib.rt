@@ -58,9 +58,19 @@ pub enum Component {
     Unknown(u8, u8),
 }
 
-// A message, received or sent. A number or Duration that its parts do not name is absent, or 0.
+// A message received. A number or Duration that its parts do not name is absent, or 0.
 pub struct Message {
     pub kind: u8,
+    pub cause: u8,
+    pub component: Component,
+    pub parts: u8,
+    pub calling: Number,
+    pub called: Number,
+    pub duration: u32,
+}
+
+// What a message that is sent carries: as of a message, without its kind.
+pub struct Note {
     pub cause: u8,
     pub component: Component,
     pub parts: u8,
@@ -374,14 +384,16 @@ pub enum Action {
     ChargeCalling,
     ChargeCalled,
     Stop,
-    Send(Message),
+    // a message of this kind, which carries the answer's note
+    Send(u8),
 }
 
 // The answer to an event. The actions stand in order; Nothing among them is none, and a host skips it.
-// A refusal has the call as it stood and no action.
+// A refusal has the call as it stood and no action. No row sends two messages: one note serves.
 pub struct Outcome {
     pub number: u8,
     pub call: Call,
+    pub note: Note,
     pub first: Action,
     pub second: Action,
     pub third: Action,

@@ -1,14 +1,14 @@
 // PERFORM: a plan carried out, once. Only here is a call touched: its side by what is registered, its stand by where it goes
 // next, its meters by their change.
 ghost use mathlib.Core.Path.{_≡_};
-ghost use Rattle.rows.specs.Perform.{ifThere, secondsIf, noteOf, sentOf, stoppingOf, actionOf, standOf, roleBy, orHeld, openedOf, withNumbers, sideOf, refusedOf, givenOf, followsOf, doesOf, appliesOf, performOf};
+ghost use Rattle.rows.specs.Perform.{ifThere, secondsIf, noteOf, stoppingOf, actionOf, standOf, roleBy, orHeld, openedOf, withNumbers, sideOf, refusedOf, givenOf, followsOf, doesOf, appliesOf, performOf};
 use crate::ABSENT;
 use crate::Act;
 use crate::Action;
 use crate::Call;
 use crate::Component;
-use crate::Message;
 use crate::Next;
+use crate::Note;
 use crate::Number;
 use crate::Outcome;
 use crate::Phase;
@@ -31,21 +31,30 @@ use meters::Metered;
 use meters::Meters;
 use meters::Payer;
 
+// A refusal sends nothing.
+const NO_NOTE: Note = Note {
+    cause: 0,
+    component: Component::Absent(0),
+    parts: 0,
+    calling: ABSENT,
+    called: ABSENT,
+    duration: 0,
+};
+
 fn if_there(there: bool, n: Number) -> Number
     ensures { λ out. ⌜ out ≡ ifThere there n ⌝ }
 {
     if there { n } else { ABSENT }
 }
 
-// The message that a plan sends, its name left open. Only the own number is ever sent; the Duration is the caller's meter.
-fn note_of(cause: u8, component: Component, parts: u8, own: Number, caller: u32) -> Message
+// What the message of a plan carries. Only the own number is ever sent; the Duration is the caller's meter.
+fn note_of(cause: u8, component: Component, parts: u8, own: Number, caller: u32) -> Note
     ensures { λ out. ⌜ out ≡ noteOf cause component parts own caller ⌝ }
 {
     let calling = if_there((parts / 16) % 2 == 1, own);
     let called = if_there((parts / 32) % 2 == 1, own);
     let duration = seconds_if((parts / 64) % 2 == 1, caller);
-    Message {
-        kind: 0,
+    Note {
         cause: cause,
         component: component,
         parts: parts,
@@ -59,23 +68,6 @@ fn seconds_if(there: bool, seconds: u32) -> u32
     ensures { λ out. ⌜ out ≡ secondsIf there seconds ⌝ }
 {
     if there { seconds } else { 0 }
-}
-
-fn sent(kind: u8, note: Message) -> Action
-    ensures { λ out. ⌜ out ≡ sentOf kind note ⌝ }
-{
-    let component = note.component;
-    let calling = note.calling;
-    let called = note.called;
-    Action::Send(Message {
-        kind: kind,
-        cause: note.cause,
-        component: component,
-        parts: note.parts,
-        calling: calling,
-        called: called,
-        duration: note.duration,
-    })
 }
 
 // STOP: a payer charged at this exchange (the caller, or the called user) changes.
@@ -100,8 +92,8 @@ fn stopping(before: Payer, after: Payer) -> Action
     }
 }
 
-fn action_of(act: Act, note: Message, error: u8, stop: Action) -> Action
-    ensures { λ out. ⌜ out ≡ actionOf act note error stop ⌝ }
+fn action_of(act: Act, cause: u8, error: u8, stop: Action) -> Action
+    ensures { λ out. ⌜ out ≡ actionOf act cause error stop ⌝ }
 {
     match act {
         Act::Nothing => Action::Nothing,
@@ -109,14 +101,14 @@ fn action_of(act: Act, note: Message, error: u8, stop: Action) -> Action
         Act::AccessSetup => Action::AccessSetup,
         Act::AccessAsk => Action::AccessAsk,
         Act::AccessError => Action::AccessError(error),
-        Act::AccessRel => Action::AccessRel(note.cause),
+        Act::AccessRel => Action::AccessRel(cause),
         Act::ChargeCalling => Action::ChargeCalling,
         Act::ChargeCalled => Action::ChargeCalled,
         Act::Stop => stop,
-        Act::SendIam => sent(IAM, note),
-        Act::SendAnm => sent(ANM, note),
-        Act::SendRel => sent(REL, note),
-        Act::SendFac => sent(FAC, note),
+        Act::SendIam => Action::Send(IAM),
+        Act::SendAnm => Action::Send(ANM),
+        Act::SendRel => Action::Send(REL),
+        Act::SendFac => Action::Send(FAC),
     }
 }
 
@@ -246,6 +238,7 @@ impl Call {
         Outcome {
             number: number,
             call: self,
+            note: NO_NOTE,
             first: Action::Nothing,
             second: Action::Nothing,
             third: Action::Nothing,
@@ -308,20 +301,21 @@ impl Call {
 
 impl Plan {
     // The plan's actions, in order.
-    fn given(self, call: Call, note: Message, stop: Action) -> Outcome
+    fn given(self, call: Call, note: Note, stop: Action) -> Outcome
         ensures { λ out. ⌜ out ≡ givenOf self call note stop ⌝ }
     {
         let a = self.first;
         let b = self.second;
         let d = self.third;
         let f = self.fourth;
-        let first = action_of(a, note, self.error, stop);
-        let second = action_of(b, note, self.error, stop);
-        let third = action_of(d, note, self.error, stop);
-        let fourth = action_of(f, note, self.error, stop);
+        let first = action_of(a, self.cause, self.error, stop);
+        let second = action_of(b, self.cause, self.error, stop);
+        let third = action_of(d, self.cause, self.error, stop);
+        let fourth = action_of(f, self.cause, self.error, stop);
         Outcome {
             number: APPLIED,
             call: call,
+            note: note,
             first: first,
             second: second,
             third: third,

@@ -110,34 +110,30 @@ fn placed(role: Role, phase: Phase, s: RevState) -> bool
     }
 }
 
-const POWERS: [u64; 16] = [
-    1,
-    10,
-    100,
-    1000,
-    10000,
-    100000,
-    1000000,
-    10000000,
-    100000000,
-    1000000000,
-    10000000000,
-    100000000000,
-    1000000000000,
-    10000000000000,
-    100000000000000,
-    1000000000000000,
-];
-
-// Ten to the count, for a count of at most 15; above that 0, so that no value lies below it.
+// Ten to the count, for a count of at most 15; above that 0, so that no value lies below it. (A table would be laid out on the
+// stack at each use.)
 fn ten_to(count: u8) -> u64
     ensures { λ out. ⌜ out ≡ tenTo count ⌝ }
 {
-    if count <= 15 {
-        let i = count as usize;
-        return POWERS[i];
+    match count {
+        0 => 1,
+        1 => 10,
+        2 => 100,
+        3 => 1000,
+        4 => 10000,
+        5 => 100000,
+        6 => 1000000,
+        7 => 10000000,
+        8 => 100000000,
+        9 => 1000000000,
+        10 => 10000000000,
+        11 => 100000000000,
+        12 => 1000000000000,
+        13 => 10000000000000,
+        14 => 100000000000000,
+        15 => 1000000000000000,
+        _ => 0,
     }
-    0
 }
 
 // A number absent (0, 0), or of 1 to 15 digits: below ten to the count either way.

@@ -18,8 +18,21 @@ pub fn put(out: &mut [u8], at: usize, b: u8) -> usize
     at + 1
 }
 
-// The bytes of a word.
-pub fn put_word(out: &mut [u8], at: usize, word: &[u8]) -> usize
+// A word that fits, byte by byte with no test of the room.
+fn copy(out: &mut [u8], at: usize, word: &[u8]) -> usize
+    requires { ⌜ at + length (now word) ≤ length (now out) ⌝ }
+    ensures { λ r. ⌜ Put (now (out .entry)) at (now (word .entry)) (now (out .exit)) r ⌝ }
+{
+    let mut i = 0;
+    while i < word.len() {
+        out[at + i] = word[i];
+        i += 1;
+    }
+    at + word.len()
+}
+
+// A word as far as it goes.
+fn put_each(out: &mut [u8], at: usize, word: &[u8]) -> usize
     requires { ⌜ at + length (now word) < 2 ^ 63 ⌝ }
     ensures { λ r. ⌜ Put (now (out .entry)) at (now (word .entry)) (now (out .exit)) r ⌝ }
 {
@@ -32,6 +45,21 @@ pub fn put_word(out: &mut [u8], at: usize, word: &[u8]) -> usize
     to
 }
 
+// The bytes of a word: all of it or none of it, which are quick, or cut at the buffer's end.
+pub fn put_word(out: &mut [u8], at: usize, word: &[u8]) -> usize
+    requires { ⌜ at + length (now word) < 2 ^ 63 ⌝ }
+    ensures { λ r. ⌜ Put (now (out .entry)) at (now (word .entry)) (now (out .exit)) r ⌝ }
+{
+    let to = at + word.len();
+    if to <= out.len() {
+        return copy(out, at, word);
+    }
+    if out.len() <= at {
+        return to;
+    }
+    put_each(out, at, word)
+}
+
 // The last digit of n.
 fn digit(n: u64) -> u8
     ensures { λ r. ⌜ r ≡ digitOf n ⌝ }
@@ -39,37 +67,77 @@ fn digit(n: u64) -> u8
     48 + (n % 10) as u8
 }
 
-// The last k digits of n, zeros in front where it has fewer.
+// The last k digits of n, zeros in front where it has fewer; the last one is put first.
 pub fn put_digits(out: &mut [u8], at: usize, n: u64, k: usize) -> usize
     requires { ⌜ at + k < 2 ^ 63 ⌝ }
     ensures { λ r. ⌜ Put (now (out .entry)) at (lastDigits k n) (now (out .exit)) r ⌝ }
     ensures { λ r. ⌜ r ≤ at + k ⌝ }
 {
-    if k == 0 {
-        return at;
+    let mut left = k;
+    let mut rest = n;
+    while 0 < left {
+        left -= 1;
+        put(out, at + left, digit(rest));
+        rest /= 10;
     }
-    let to = put_digits(out, at, n / 10, k - 1);
-    put(out, to, digit(n))
+    at + k
+}
+
+// How many digits n has.
+fn digits(n: u32) -> usize
+    ensures { λ r. ⌜ r ≡ length (decimal n) ⌝ }
+{
+    if n < 10 {
+        return 1;
+    }
+    if n < 100 {
+        return 2;
+    }
+    if n < 1000 {
+        return 3;
+    }
+    if n < 10000 {
+        return 4;
+    }
+    if n < 100000 {
+        return 5;
+    }
+    if n < 1000000 {
+        return 6;
+    }
+    if n < 10000000 {
+        return 7;
+    }
+    if n < 100000000 {
+        return 8;
+    }
+    if n < 1000000000 {
+        return 9;
+    }
+    10
 }
 
 // n in decimal.
-pub fn put_dec(out: &mut [u8], at: usize, n: u64) -> usize
+pub fn put_dec(out: &mut [u8], at: usize, n: u32) -> usize
     requires { ⌜ at < 2 ^ 62 ⌝ }
     ensures { λ r. ⌜ Put (now (out .entry)) at (decimal n) (now (out .exit)) r ⌝ }
-    ensures { λ r. ⌜ r ≤ at + 20 ⌝ }
+    ensures { λ r. ⌜ r ≤ at + 10 ⌝ }
 {
     if n < 10 {
-        return put(out, at, digit(n));
+        return put(out, at, digit(n as u64));
     }
-    let to = put_dec(out, at, n / 10);
-    put(out, to, digit(n))
+    let k = digits(n);
+    if out.len() <= at {
+        return at + k;
+    }
+    put_digits(out, at, n as u64, k)
 }
 
 // A word and a number in decimal.
-pub fn put_numbered(out: &mut [u8], at: usize, word: &[u8], n: u64) -> usize
+pub fn put_numbered(out: &mut [u8], at: usize, word: &[u8], n: u32) -> usize
     requires { ⌜ at + length (now word) < 2 ^ 62 ⌝ }
     ensures { λ r. ⌜ Put (now (out .entry)) at (numbered (now (word .entry)) n) (now (out .exit)) r ⌝ }
-    ensures { λ r. ⌜ r ≤ at + length (now (word .entry)) + 20 ⌝ }
+    ensures { λ r. ⌜ r ≤ at + length (now (word .entry)) + 10 ⌝ }
 {
     let to = put_word(out, at, word);
     put_dec(out, to, n)

@@ -8,5 +8,5 @@ unfolding le4At
 le4-spec =
     tie.close
     (tie.spec
-    (λ c. λ κs. search needs) (λ c. search needs) (λ c. λ κs. search needs) (λ c. search needs) (λ c. search needs)
-    (λ c. search needs))
+    (λ c. search needs) (λ c. λ κs. search needs) (λ c. search needs) (λ c. λ κs. search needs) (λ c. search needs)
+    (λ c. λ κs. search needs) (λ c. search needs) (λ c. search needs) (λ c. search needs))

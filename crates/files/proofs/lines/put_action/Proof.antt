@@ -1,6 +1,6 @@
 use borrow.Author.Needs.{needs}
-use Rattle.files.specs.Lines.{actionText}
-use Rattle.text.proofs.Laws.{puts, put-by}
+use Rattle.text.proofs.Laws.{puts}
+use Rattle.files.proofs.Texts.{action-by}
 use Rattle.files.proofs.lines.put_action.Statement.{statement}
 use Rattle.files.proofs.lines.put_action.Tie as tie
 
@@ -13,13 +13,13 @@ put-action-spec =
     (λ c. search needs) (λ c. search needs) (λ c. λ κs. search needs) (λ c. search needs) (λ c. search needs) (λ c. search needs)
     (λ c. λ κs. search needs) (λ c. search needs) (λ c. search needs) (λ c. λ κs. search needs) (λ c. search needs)
     (λ c. search needs) (λ c. λ κs. search needs) (λ c. search needs) (λ c. search needs) (λ c. λ κs. search needs)
-    (λ c. search needs) (λ c. λ κs. search needs) (λ c. (search (puts, put-by actionText), search needs)) (λ c. search needs)
-    (λ c. (search (puts, put-by actionText), search needs)) (λ c. search needs)
-    (λ c. (search (puts, put-by actionText), search needs)) (λ c. search needs)
-    (λ c. (search (puts, put-by actionText), search needs)) (λ c. search needs)
-    (λ c. (search (puts, put-by actionText), search needs)) (λ c. search needs)
-    (λ c. (search (puts, put-by actionText), search needs)) (λ c. search needs)
-    (λ c. (search (puts, put-by actionText), search needs)) (λ c. search needs)
-    (λ c. (search (puts, put-by actionText), search needs)) (λ c. search needs)
-    (λ c. (search (puts, put-by actionText), search needs)) (λ c. search needs)
-    (λ c. (search (puts, put-by actionText), search needs)))
+    (λ c. search needs) (λ c. λ κs. search needs) (λ c. (search (puts, action-by), search needs)) (λ c. search needs)
+    (λ c. (search (puts, action-by), search needs)) (λ c. search needs)
+    (λ c. (search (puts, action-by), search needs)) (λ c. search needs)
+    (λ c. (search (puts, action-by), search needs)) (λ c. search needs)
+    (λ c. (search (puts, action-by), search needs)) (λ c. search needs)
+    (λ c. (search (puts, action-by), search needs)) (λ c. search needs)
+    (λ c. (search (puts, action-by), search needs)) (λ c. search needs)
+    (λ c. (search (puts, action-by), search needs)) (λ c. search needs)
+    (λ c. (search (puts, action-by), search needs)) (λ c. search needs)
+    (λ c. (search (puts, action-by), search needs)))

@@ -9,6 +9,5 @@ unfolding metersText
 put-meters-spec =
     tie.close
     (tie.spec
-    (λ c. search needs) (λ c. search needs) (λ c. λ κs. search needs) (λ c. search needs) (λ c. search needs)
-    (λ c. λ κs. search needs) (λ c. search needs) (λ c. search needs) (λ c. λ κs. search needs) (λ c. search needs)
-    (λ c. (search (put-three), search needs)))
+    (λ c. search needs) (λ c. λ κs. search needs) (λ c. search needs) (λ c. λ κs. search needs) (λ c. search needs)
+    (λ c. λ κs. search needs) (λ c. search needs) (λ c. (search (put-three), search needs)))

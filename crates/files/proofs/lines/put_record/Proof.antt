@@ -9,4 +9,5 @@ unfolding recordText
 put-record-spec =
     tie.close
     (tie.spec
-    (λ c. λ κs. search needs) (λ c. λ κs. search needs) (λ c. search needs) (λ c. (search puts, search needs)))
+    (λ c. λ κs. search needs) (λ c. λ κs. search needs) (λ c. search needs) (λ c. (search puts, search needs))
+    (λ c. search needs) (λ c. (search puts, search needs)))

@@ -1,23 +1,31 @@
 -- The loop keeps what `So` says, and the measure is what is left of the file.
 -- Assumes nothing.
+use Prim.Native.Nat.{_-_}
 use native.Mathlib.Omega.{arith}
 use borrow.Author.Needs.{needs}
+use lib.ListN.{length}
 use Rattle.text.proofs.Laws.{put-length}
-use Rattle.files.proofs.Turns.{So, measure, so-start, loop-on, loop-falls, loop-done}
+use Rattle.files.proofs.Turns.{So, so-start, loop-on, loop-falls, loop-done}
 use Rattle.files.proofs.listing.write.Statement.{statement}
 use Rattle.files.proofs.listing.write.Tie as tie
 
 abbrev Inv-loop : tie.InvT-loop
-Inv-loop file out₀ to₀ place₀ more₀ out to place = So file out₀ to₀ out to place
+Inv-loop file out₀ to₀ at₀ count₀ call₀ more₀ out to at count call = So file out₀ to₀ out to at count call
 
 abbrev μ-loop : tie.MeasureT-loop
-μ-loop file out₀ to₀ place₀ more₀ out to place = measure file place
+μ-loop file out₀ to₀ at₀ count₀ call₀ more₀ out to at count call = length file - at
 
-one-record-requires : tie.Need-one-record-requires Inv-loop μ-loop
-one-record-requires c κs =
-    let l = c .before .before in
+add-count : tie.Need-add-count Inv-loop μ-loop
+add-count c =
+    let l = c .before .before .before in
     let w = l .before .before .before .before in
-    omega (arith, l .loop .inv .on (c .before .loop-test .taken), l .loop .inv .within, w .put-word .ensures .place, w .before .before .before .before .before .pre)
+    omega (arith, l .loop .inv .count, l .loop .inv .within, w .before .before .before .before .before .pre)
+
+put-record-requires : tie.Need-put-record-requires Inv-loop μ-loop
+put-record-requires c κs =
+    let l = c .before .before .before .before in
+    let w = l .before .before .before .before in
+    omega (arith, l .loop .inv .bound, l .loop .inv .count, l .loop .inv .within, w .put-word .ensures .place, w .before .before .before .before .before .pre)
 
 put-numbered-line-requires : tie.Need-put-numbered-line-requires Inv-loop μ-loop
 put-numbered-line-requires c κs =
@@ -34,6 +42,6 @@ write-spec =
     (tie.spec
     Inv-loop
     μ-loop
-    (λ c. search needs) (λ c. λ κs. search needs) (λ c. λ κs. search needs) (λ c. search (so-start)) one-record-requires
-    (λ c. search (loop-falls)) (λ c. search (loop-on)) (λ c. search needs) put-numbered-line-requires
-    (λ c. put-length (returns c)) returns)
+    (λ c. search needs) (λ c. λ κs. search needs) (λ c. λ κs. search needs) (λ c. search (so-start)) (λ c. λ κs. search needs)
+    (λ c. λ κs. search needs) add-count put-record-requires (λ c. λ κs. search needs) (λ c. search (loop-falls))
+    (λ c. search (loop-on)) (λ c. search needs) put-numbered-line-requires (λ c. put-length (returns c)) returns)
