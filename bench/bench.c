@@ -1,13 +1,22 @@
 /*
- * The proved listing (rev_listing) and the plain one (plain_listing) on the same inputs, in one process.
+ * Listings of the same inputs, timed in one process: the proved one (rev_listing), the plain one (plain_listing) and
+ * that of the independent model (reference_listing).
  *
- *   bench                          a table: nanoseconds for one call of each, and their ratio
- *   bench --exact                  the same with buffers of exactly the listing's length
- *   bench --once WHICH KIND SIZE   one call: WHICH rev or plain, KIND call, messages or expiries, SIZE in KiB (1 to 64)
+ *   bench [--exact]                a table: nanoseconds for one call of each, and ratios to the plain one
+ *   bench [--exact] --once WHICH KIND SIZE [CALLS]
+ *                                  no table, but CALLS calls (1 if it is not said, and 0 is none): WHICH rev or plain,
+ *                                  KIND call, messages or expiries, SIZE in KiB (1 to 64)
  *
- * The last is for tools that count instructions, for instance
+ * Buffers have 4 MiB, which is more than any listing takes, or under --exact exactly the listing's length, which a call
+ * of the plain listing gives first. --once is for tools that count instructions: all that a run does more than one
+ * with fewer calls is those calls.
  *
- *   valgrind --tool=callgrind --callgrind-out-file=/dev/null --toggle-collect=plain_listing bench --once plain call 64
+ * The plain listing is always in this program; the proved one unless it is built with WITHOUT_REV, the reference if it
+ * is built with WITH_REFERENCE. Where the proved one runs under an emulator, and the reference cannot, two programs
+ * share the work:
+ *
+ *   bench [--exact] --figures      the native one: a line for each row, with the nanoseconds of reference and plain
+ *   bench [--exact] --emulated     the emulated one: the table, with those figures read from standard input
  *
  * The inputs are built here and are the same in every run:
  *
@@ -26,9 +35,27 @@
 #include <string.h>
 #include <time.h>
 
-extern size_t rev_listing(const uint8_t *file, size_t file_len, uint8_t *out, size_t out_len);
-
 typedef size_t listing(const uint8_t *file, size_t file_len, uint8_t *out, size_t out_len);
+
+enum which { REV, PLAIN, REFERENCE, LISTINGS };
+
+#ifndef WITHOUT_REV
+extern listing rev_listing;
+#endif
+#ifdef WITH_REFERENCE
+extern listing reference_listing;
+#endif
+
+/* NULL where it is not linked. */
+static listing *const listings[LISTINGS] = {
+#ifndef WITHOUT_REV
+    [REV] = rev_listing,
+#endif
+    [PLAIN] = plain_listing,
+#ifdef WITH_REFERENCE
+    [REFERENCE] = reference_listing,
+#endif
+};
 
 enum {
     KIB = 1024,
@@ -36,11 +63,13 @@ enum {
     ROOM = 4 * KIB * KIB,
     RUNS = 200,        /* the best of so many counts */
     RUN_TIME = 200000, /* nanoseconds that a run takes at least: short, to find a quiet moment of the machine */
+    TOO_LONG = 8,      /* given back where a listing does not fit */
     FILLER = 0xEE
 };
 
 static uint8_t file[LONGEST_FILE];
-static uint8_t rev_out[ROOM], plain_out[ROOM];
+static uint8_t expected[ROOM]; /* the plain listing */
+static uint8_t out[ROOM];      /* one for all, so that none has the better place */
 
 /* Takes a byte of each listing that was timed, so that none can be left out. */
 static uint64_t sum;
@@ -116,41 +145,35 @@ static size_t build(const struct kind *kind, size_t size)
 
 static int is_filler(const uint8_t *from, const uint8_t *end)
 {
-    while (from != end && *from == FILLER)
-        from++;
-    return from == end;
+    /* all bytes are alike if each is as the one before it */
+    return from == end || (*from == FILLER && memcmp(from, from + 1, (size_t)(end - from) - 1) == 0);
+}
+
+/* Whether `list` gives `given`, a length or 8, for a buffer of `room` bytes and has written the listing and no more. */
+static int gives(listing *list, size_t file_len, size_t room, size_t given)
+{
+    size_t text = given == TOO_LONG ? 0 : given;
+
+    memset(out, FILLER, ROOM);
+    return list(file, file_len, out, room) == given && memcmp(out, expected, text) == 0 &&
+           is_filler(out + text, out + ROOM);
 }
 
 /*
- * Gives the listing's length if both list the file alike, leave the rest of the buffer and take a buffer of exactly
- * that length, and if both refuse a shorter one with 8 and leave it; else 0.
+ * Gives the listing's length if all list the file alike, leave the rest of the buffer and take a buffer of exactly that
+ * length, and if all refuse a shorter one with 8 and leave it; else 0.
  */
 static size_t check(size_t file_len)
 {
-    size_t length, rooms[2];
+    size_t length = plain_listing(file, file_len, expected, ROOM);
 
-    memset(rev_out, FILLER, ROOM);
-    memset(plain_out, FILLER, ROOM);
-    length = plain_listing(file, file_len, plain_out, ROOM);
-    if (rev_listing(file, file_len, rev_out, ROOM) != length || length == 8 || memcmp(rev_out, plain_out, ROOM) != 0 ||
-        !is_filler(plain_out + length, plain_out + ROOM))
+    if (length == TOO_LONG)
         return 0;
-    rooms[0] = length;
-    rooms[1] = length - 1;
-    for (int i = 0; i < 2; i++) {
-        size_t expected = i == 0 ? length : 8;
-
-        memset(rev_out, FILLER, ROOM);
-        if (rev_listing(file, file_len, rev_out, rooms[i]) != expected)
+    for (int i = 0; i < LISTINGS; i++)
+        if (listings[i] != NULL && !(gives(listings[i], file_len, ROOM, length) &&
+                                     gives(listings[i], file_len, length, length) &&
+                                     gives(listings[i], file_len, length - 1, TOO_LONG)))
             return 0;
-        if (i == 0 ? memcmp(rev_out, plain_out, ROOM) != 0 : !is_filler(rev_out, rev_out + ROOM))
-            return 0;
-        memset(rev_out, FILLER, ROOM);
-        if (plain_listing(file, file_len, rev_out, rooms[i]) != expected)
-            return 0;
-        if (i == 0 ? memcmp(rev_out, plain_out, ROOM) != 0 : !is_filler(rev_out, rev_out + ROOM))
-            return 0;
-    }
     return length;
 }
 
@@ -165,7 +188,7 @@ static int64_t now(void)
     return (int64_t)time.tv_sec * 1000000000 + time.tv_nsec;
 }
 
-static int64_t time_calls(listing *list, size_t file_len, uint8_t *out, size_t room, long calls)
+static int64_t time_calls(listing *list, size_t file_len, size_t room, long calls)
 {
     int64_t start = now();
 
@@ -178,68 +201,133 @@ static int64_t time_calls(listing *list, size_t file_len, uint8_t *out, size_t r
 }
 
 /* How many calls a run takes to last long enough. */
-static long calibrate(listing *list, size_t file_len, uint8_t *out, size_t room)
+static long calibrate(listing *list, size_t file_len, size_t room)
 {
     long calls = 1;
 
-    while (time_calls(list, file_len, out, room, calls) < RUN_TIME)
+    while (time_calls(list, file_len, room, calls) < RUN_TIME)
         calls *= 2;
     return calls;
 }
 
-static double smaller(double a, double b)
+/* Sets the best nanoseconds for one call of each listing. They take turns, so that a slow moment meets all of them. */
+static void time_all(size_t file_len, size_t room, double best[LISTINGS])
 {
-    return a < b ? a : b;
+    long calls[LISTINGS];
+
+    for (int i = 0; i < LISTINGS; i++) {
+        best[i] = 1e30;
+        if (listings[i] != NULL)
+            calls[i] = calibrate(listings[i], file_len, room);
+    }
+    for (int run = 0; run < RUNS; run++) {
+        for (int i = 0; i < LISTINGS; i++) {
+            if (listings[i] != NULL) {
+                double once = (double)time_calls(listings[i], file_len, room, calls[i]) / calls[i];
+
+                if (once < best[i])
+                    best[i] = once;
+            }
+        }
+    }
 }
 
-static int table(int exact)
+/* ---- What is printed ---- */
+
+enum output { TABLE, EMULATED_TABLE, FIGURES };
+
+static void print_head(int exact, enum output output)
 {
-    printf("Nanoseconds of processor time for one call, the best of %d runs of at least %d us, of the two in turn.\n"
+    printf("Nanoseconds of processor time for one call, the best of %d runs of at least %d us, in turn.\n"
            "Buffers of %s, written before and not cleared between calls.\n\n",
            RUNS, RUN_TIME / 1000, exact ? "exactly the listing's length" : "4 MiB");
-    printf("%-9s %11s %14s %12s %12s %8s\n", "input", "file bytes", "listing bytes", "rev ns", "plain ns", "ratio");
+    if (output == EMULATED_TABLE)
+        printf("%-36s %36s  %36s\n", "", "----------- emulated -----------", "------------ native ------------");
+    printf("%-9s %11s %14s %12s %12s %10s", "input", "file bytes", "listing bytes", "rev ns", "plain ns", "rev/plain");
+    if (output == EMULATED_TABLE)
+        printf("  %12s %12s %10s", "ref ns", "plain ns", "ref/plain");
+    else if (listings[REFERENCE] != NULL)
+        printf("  %12s %10s", "ref ns", "ref/plain");
+    printf("\n");
+}
+
+/* Gives whether it could: the native figures of an emulated table may not be there. */
+static int print_row(const char *name, size_t file_len, size_t length, const double ns[LISTINGS], enum output output)
+{
+    double reference, plain;
+
+    if (output == FIGURES) {
+        printf("%.0f %.0f\n", ns[REFERENCE], ns[PLAIN]);
+        return 1;
+    }
+    printf("%-9s %11zu %14zu %12.0f %12.0f %10.2f", name, file_len, length, ns[REV], ns[PLAIN], ns[REV] / ns[PLAIN]);
+    if (output == EMULATED_TABLE) {
+        if (scanf("%lf %lf", &reference, &plain) != 2)
+            return 0;
+        printf("  %12.0f %12.0f %10.2f", reference, plain, reference / plain);
+    } else if (listings[REFERENCE] != NULL) {
+        printf("  %12.0f %10.2f", ns[REFERENCE], ns[REFERENCE] / ns[PLAIN]);
+    }
+    printf("\n");
+    fflush(stdout);
+    return 1;
+}
+
+static int table(int exact, enum output output)
+{
+    if (listings[output == FIGURES ? REFERENCE : REV] == NULL) {
+        fputs("bench: it was built without the listing that this takes\n", stderr);
+        return 1;
+    }
+    if (output != FIGURES)
+        print_head(exact, output);
     for (int k = 0; k < KINDS; k++) {
         for (int s = 0; s < SIZES; s++) {
             size_t file_len = build(&kinds[k], sizes[s]);
             size_t length = check(file_len);
-            size_t room = exact ? length : ROOM;
-            double rev = 1e30, plain = 1e30;
-            long rev_calls, plain_calls;
+            double ns[LISTINGS];
 
             if (length == 0) {
                 fprintf(stderr, "bench: the listings of %s, %zu bytes, differ\n", kinds[k].name, file_len);
                 return 1;
             }
-            rev_calls = calibrate(rev_listing, file_len, rev_out, room);
-            plain_calls = calibrate(plain_listing, file_len, plain_out, room);
-            for (int run = 0; run < RUNS; run++) {
-                int64_t rev_time = time_calls(rev_listing, file_len, rev_out, room, rev_calls);
-                int64_t plain_time = time_calls(plain_listing, file_len, plain_out, room, plain_calls);
-
-                rev = smaller(rev, (double)rev_time / rev_calls);
-                plain = smaller(plain, (double)plain_time / plain_calls);
+            time_all(file_len, exact ? length : ROOM, ns);
+            if (!print_row(kinds[k].name, file_len, length, ns, output)) {
+                fputs("\nbench: the native figures are not on standard input\n", stderr);
+                return 1;
             }
-            printf("%-9s %11zu %14zu %12.0f %12.0f %8.2f\n", kinds[k].name, file_len, length, rev, plain, rev / plain);
-            fflush(stdout);
         }
     }
-    printf("\nAll listings were the same. (sum %llu)\n", (unsigned long long)sum);
+    if (output != FIGURES)
+        printf("\nAll listings were the same. (sum %llu)\n", (unsigned long long)sum);
     return 0;
 }
 
-static int once(const char *which, const char *kind_name, const char *size_text)
+/* Reads a number from 0 to `most`; gives whether it is one. */
+static int read_number(const char *text, unsigned long most, unsigned long *number)
 {
     char *end;
-    unsigned long size = strtoul(size_text, &end, 10);
-    int rev = strcmp(which, "rev") == 0;
 
-    if (*end != '\0' || size < 1 || size > LONGEST_FILE / KIB || (!rev && strcmp(which, "plain") != 0))
+    *number = strtoul(text, &end, 10);
+    return *text >= '0' && *text <= '9' && *end == '\0' && *number <= most;
+}
+
+static int once(int exact, const char *which, const char *kind_name, const char *size_text, const char *calls_text)
+{
+    enum which chosen = strcmp(which, "rev") == 0 ? REV : PLAIN;
+    unsigned long size, calls;
+
+    if ((chosen == PLAIN && strcmp(which, "plain") != 0) || listings[chosen] == NULL ||
+        !read_number(size_text, LONGEST_FILE / KIB, &size) || size == 0 || !read_number(calls_text, 1000000, &calls))
         return 2;
     for (int k = 0; k < KINDS; k++) {
         if (strcmp(kinds[k].name, kind_name) == 0) {
             size_t file_len = build(&kinds[k], size * KIB);
-            size_t length = (rev ? rev_listing : plain_listing)(file, file_len, plain_out, ROOM);
+            size_t length = exact ? plain_listing(file, file_len, out, ROOM) : 0;
+            size_t room = exact ? length : ROOM;
 
+            for (unsigned long i = 0; i < calls; i++)
+                length = listings[chosen](file, file_len, out, room);
             printf("%s: %s, file of %zu bytes, listing of %zu bytes\n", which, kind_name, file_len, length);
             return 0;
         }
@@ -249,15 +337,22 @@ static int once(const char *which, const char *kind_name, const char *size_text)
 
 int main(int count, char **words)
 {
+    int exact = count > 1 && strcmp(words[1], "--exact") == 0;
     int status = 2;
 
+    count -= exact;
+    words += exact;
     if (count == 1)
-        status = table(0);
-    else if (count == 2 && strcmp(words[1], "--exact") == 0)
-        status = table(1);
-    else if (count == 5 && strcmp(words[1], "--once") == 0)
-        status = once(words[2], words[3], words[4]);
+        status = table(exact, TABLE);
+    else if (count == 2 && strcmp(words[1], "--emulated") == 0)
+        status = table(exact, EMULATED_TABLE);
+    else if (count == 2 && strcmp(words[1], "--figures") == 0)
+        status = table(exact, FIGURES);
+    else if ((count == 5 || count == 6) && strcmp(words[1], "--once") == 0)
+        status = once(exact, words[2], words[3], words[4], count == 6 ? words[5] : "1");
     if (status == 2)
-        fputs("usage: bench [--exact | --once rev|plain call|messages|expiries 1..64]\n", stderr);
+        fputs("usage: bench [--exact] [--once rev|plain call|messages|expiries 1..64 [CALLS]]\n"
+              "       bench [--exact] --figures | --emulated\n",
+              stderr);
     return status;
 }

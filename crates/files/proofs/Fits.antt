@@ -1,4 +1,4 @@
--- What `rev_listing` leaves and answers.
+-- What is left and answered where a text is measured first.
 -- Assumes nothing.
 use mathlib.Core.Path.{_≡_, refl, sym, ap, _∙_}
 use mathlib.Core.List.{List, [], _∷_, _++_}
@@ -9,41 +9,48 @@ use lib.ListN.{length, take, drop}
 use lib.Seq.{sets, sets-eq, length-take-le}
 use Rattle.text.specs.Text.{Put}
 use Rattle.text.proofs.Cases.{yes-lt, no-lt, both-lt}
-use Rattle.files.specs.Listing.{listingOf, longest, tooLong, answers, leaves}
+use Rattle.text.proofs.Laws.{put-by}
+use Rattle.files.specs.Fit.{textOf, tooLong, answers, leaves}
+use Rattle.files.specs.Places.{longest}
+use Rattle.files.specs.declared.Shown.{Shown}
+
+-- the text that is shown, by which it is
+pub shown-by : (x y : Shown) (s a b : List ℕ) (i j : ℕ) → x ≡ y → Put a i (textOf y s) b j → Put a i (textOf x s) b j
+shown-by x y s a b i j e p = put-by (λ (z : Shown). textOf z s) x y a b i j e p
 
 -- a front of no bytes, put back, changes nothing
 pub no-front : (e out : List ℕ) → length e ≡ 0 → e ++ drop 0 out ≡ out
 no-front [] out h = refl
 no-front (a ∷ e) out h = absurd (omega arith)
 
--- n: the listing's length, as it was measured
-module _ (s out : List ℕ) (n : ℕ) (h : length s ≤ longest) (l : n ≡ 0 + length (listingOf s)) where
-  pub full-as : (e : List ℕ) → length out < n → length e ≡ 0 → (tooLong ≡ answers s out) × (e ++ drop 0 out ≡ leaves s out)
+-- n: the text's length, as it was measured
+module _ (s t out : List ℕ) (n : ℕ) (h : length s ≤ longest) (l : n ≡ 0 + length t) where
+  pub full-as : (e : List ℕ) → length out < n → length e ≡ 0 → (tooLong ≡ answers s t out) × (e ++ drop 0 out ≡ leaves s t out)
   unfolding answers leaves
   full-as e g z =
       (no-lt _ _ _ _ _ h (yes-lt _ _ _ _ _ (omega arith) refl), no-front e out z ∙ no-lt _ _ _ _ _ h (yes-lt _ _ _ _ _ (omega arith) refl))
 
-  pub fit-as : (e new : List ℕ) (r : ℕ) → n ≤ length out → length e ≡ 0 → Put (e ++ drop 0 out) 0 (listingOf s) new r → (r ≡ answers s out) × (new ≡ leaves s out)
+  pub fit-as : (e new : List ℕ) (r : ℕ) → n ≤ length out → length e ≡ 0 → Put (e ++ drop 0 out) 0 t new r → (r ≡ answers s t out) × (new ≡ leaves s t out)
   unfolding answers leaves
   fit-as e new r g z p = (
     no-lt _ _ _ _ _ h (no-lt _ _ _ _ _ (omega arith) (p .place ∙ zero-add _)),
     no-lt _ _ _ _ _ h
         (no-lt _ _ _ _ _ (omega arith)
-        (p .bytes ∙ ap (λ (o : List ℕ). sets o 0 (listingOf s)) (no-front e out z)
-        ∙ sets-eq (listingOf s) out 0 (omega arith)
-        ∙ ap (λ (k : ℕ). listingOf s ++ drop k out) (zero-add (length (listingOf s))))),
+        (p .bytes ∙ ap (λ (o : List ℕ). sets o 0 t) (no-front e out z)
+        ∙ sets-eq t out 0 (omega arith)
+        ∙ ap (λ (k : ℕ). t ++ drop k out) (zero-add (length t)))),
   )
 
 -- an answer other than 8 is a length within the buffer
-answers-within : (s out : List ℕ) → (answers s out ≡ tooLong → ⊥) → answers s out ≤ length out
+answers-within : (s t out : List ℕ) → (answers s t out ≡ tooLong → ⊥) → answers s t out ≤ length out
 unfolding answers
-answers-within s out =
+answers-within s t out =
     both-lt _ _ (λ (k : ℕ). (k ≡ tooLong → ⊥) → k ≤ length out) _ _ (λ _ f. absurd (f refl)) λ _.
     both-lt _ _ (λ (k : ℕ). (k ≡ tooLong → ⊥) → k ≤ length out) _ _ (λ _ f. absurd (f refl)) λ g _. g
 
-module _ (s out last : List ℕ) (k : ℕ) (e : k ≡ answers s out) (f : k ≡ tooLong → ⊥) (h : length last ≡ length out) where
+module _ (s t out last : List ℕ) (k : ℕ) (e : k ≡ answers s t out) (f : k ≡ tooLong → ⊥) (h : length last ≡ length out) where
   pub answer-within : k ≤ length last
-  answer-within = omega (arith, answers-within s out (λ g. f (e ∙ g)))
+  answer-within = omega (arith, answers-within s t out (λ g. f (e ∙ g)))
 
   pub front-length : k ≡ length (take k last)
   front-length = sym (length-take-le k last answer-within)

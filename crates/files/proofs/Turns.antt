@@ -1,25 +1,34 @@
--- A turn of the listing's loop, and what the loop keeps.
+-- The loops over the records of a file: what they keep, and what one turn does to it.
 -- Assumes nothing.
 use mathlib.Core.Path.{_≡_, refl, sym, ap, _∙_}
-use mathlib.Core.List.{List, [], _++_, append-assoc}
+use mathlib.Core.List.{List, [], _∷_, _++_, append-assoc, append-nil}
 use Prim.Native.Nat.{ℕ, zero, suc, _+_, _*_, _-_, _≤_, _<_}
 use native.Mathlib.Omega.{arith}
 use lib.ListN.{length}
 use Rattle.text.specs.Text.{Put, ascii}
-use Rattle.text.proofs.Cases.{yes-lt, no-lt}
+use Rattle.text.proofs.Cases.{yes-lt, no-lt, both-lt}
 use Rattle.text.proofs.Laws.{put-none, put-after, put-as}
 use Rattle.rows.specs.Step.{unopenedCall}
 use Rattle.rows.specs.declared.Call.{Call}
 use Rattle.rows.specs.declared.Outcome.{Outcome}
 use Rattle.files.specs.Bodies.{readAt}
+use Rattle.files.specs.Dump.{placeText, placesText, dumpOf, longestPlace}
 use Rattle.files.specs.Lines.{numberedLine, recordText, longestRecord}
-use Rattle.files.specs.Listing.{answerOf, placeAfter, restOf, recordsOf, listingOf}
+use Rattle.files.specs.Listing.{answerOf, restOf, recordsOf, listingOf}
+use Rattle.files.specs.Places.{placeAfter, placesFrom, placesOf}
 use Rattle.files.specs.declared.Read.{Read}
 use Rattle.files.proofs.Records.{Within, read-within}
 
--- the answer to what was found, by what it is
-pub answer-by : (f g : Read) (c : Call) (o : Outcome) → f ≡ g → o ≡ answerOf g c → o ≡ answerOf f c
-answer-by f g c o e h = h ∙ ap (λ (r : Read). answerOf r c) (sym e)
+-- ---- where a loop stands
+
+-- k places at most are left, n records came before
+pub record Stands (s : List ℕ) (at n k : ℕ) : Type 0 where
+  pub within : at ≤ length s
+  pub enough : length s ≤ at + k
+  pub count : n ≤ at
+
+first : (s : List ℕ) → Stands s 0 0 (length s)
+first s = record { within = omega arith; enough = omega arith; count = omega arith }
 
 -- from a place within the file the next one lies further on, and not past the end
 onward : (n at : ℕ) (rd : Read) → Within n at rd → at < n → (at < placeAfter rd n) × (placeAfter rd n ≤ n)
@@ -28,42 +37,16 @@ onward n at Read.End w h = (h, omega arith)
 onward n at (Read.Stop k) w h = (h, omega arith)
 onward n at (Read.Got e next) w h = (omega (arith, w), w .1)
 
--- `text` has been put; what is left of the listing is the rest from this place on, with a turn for each byte that is left
-pub record So (s out₀ : List ℕ) (to₀ : ℕ) (out : List ℕ) (to at n : ℕ) (c : Call) : Type 0 where
-  pub text : List ℕ
-  pub turns : ℕ
-  pub put : Put out₀ to₀ text out to
-  pub left : text ++ restOf (suc turns) s at n c ≡ recordsOf s
-  pub within : at ≤ length s
-  pub enough : length s ≤ at + turns
-  pub count : n ≤ at
-  pub bound : to ≤ to₀ + longestRecord * n
+places-on : (k : ℕ) (s : List ℕ) (at : ℕ) → at < length s → at ∷ placesFrom k s (placeAfter (readAt s at) (length s)) ≡ placesFrom (suc k) s at
+unfolding placesFrom
+places-on k s at h = yes-lt _ _ _ _ _ h refl
 
-pub so-start : (s out₀ : List ℕ) (to₀ : ℕ) (c : Call) → c ≡ unopenedCall → So s out₀ to₀ out₀ to₀ 0 0 c
-unfolding recordsOf
-so-start s out₀ to₀ c e =
-    rw e
-    (record {
-      text = [];
-      turns = length s;
-      put = put-none out₀ to₀;
-      left = ap (λ (k : ℕ). restOf k s 0 0 unopenedCall) (omega arith);
-      within = omega arith;
-      enough = omega arith;
-      count = omega arith;
-      bound = omega arith;
-    })
+places-done : (k : ℕ) (s : List ℕ) (at : ℕ) → length s ≤ at → [] ≡ placesFrom k s at
+unfolding placesFrom
+places-done zero s at h = refl
+places-done (suc k) s at h = no-lt _ _ _ _ _ h refl
 
-rest-on : (k : ℕ) (s : List ℕ) (at n : ℕ) (c : Call) → at < length s
-    → recordText (n + 1) (answerOf (readAt s at) c) ++ restOf k s (placeAfter (readAt s at) (length s)) (n + 1) (answerOf (readAt s at) c .call) ≡ restOf (suc k) s at n c
-unfolding restOf
-rest-on k s at n c h = yes-lt _ _ _ _ _ h refl
-
-rest-done : (k : ℕ) (s : List ℕ) (at n : ℕ) (c : Call) → length s ≤ at → numberedLine (ascii "END ") n ≡ restOf (suc k) s at n c
-unfolding restOf
-rest-done k s at n c h = no-lt _ _ _ _ _ h refl
-
--- one turn: f is what was read, o the answer to it, `next` the place after it
+-- f is what was read, `next` the place after it
 module _ (s : List ℕ) (at next : ℕ) (f : Read) (h : at < length s) (g : f ≡ readAt s at) (e : next ≡ placeAfter f (length s)) where
   moves : (at < next) × (next ≤ length s)
   moves = rw (e, g) (onward (length s) at (readAt s at) (read-within s at) h)
@@ -71,33 +54,131 @@ module _ (s : List ℕ) (at next : ℕ) (f : Read) (h : at < length s) (g : f �
   pub loop-falls : length s - next < length s - at
   loop-falls = omega (arith, moves)
 
-  module _ (out₀ out out′ : List ℕ) (to₀ to to′ n : ℕ) (c : Call) (o : Outcome) (d : o ≡ answerOf f c)
-      (p : Put out to (recordText (n + 1) o) out′ to′) (m : to′ ≤ to + longestRecord) (i : So s out₀ to₀ out to at n c) where
-    so-on : (k : ℕ) → i .turns ≡ suc k → So s out₀ to₀ out′ to′ next (n + 1) (o .call)
-    so-on k t =
-        let l : i .text ++ (recordText (n + 1) o ++ restOf (suc k) s next (n + 1) (o .call)) ≡ recordsOf s =
-        rw (e, d, g) (ap (λ (x : List ℕ). i .text ++ x) (rest-on (suc k) s at n c h ∙ ap (λ (x : ℕ). restOf (suc x) s at n c) (sym t)) ∙ i .left) in
+  one-less : (k : ℕ) → at ∷ placesFrom k s next ≡ placesFrom (suc k) s at
+  one-less k = rw (e, g) (places-on k s at h)
+
+  steps : (n k : ℕ) → Stands s at n (suc k) → Stands s next (n + 1) k
+  steps n k i = record { within = moves .1; enough = omega (arith, moves, i .enough); count = omega (arith, moves, i .count) }
+
+-- ---- a loop that puts a text: `text` has been put, and `rest` of the places that are left is what is left of `whole`
+
+pub record So (s out₀ : List ℕ) (to₀ : ℕ) (whole : List ℕ) (most : ℕ) (rest : List ℕ → List ℕ) (out : List ℕ) (to at n : ℕ) : Type 0 where
+  pub text : List ℕ
+  pub turns : ℕ
+  pub put : Put out₀ to₀ text out to
+  pub left : text ++ rest (placesFrom turns s at) ≡ whole
+  pub stands : Stands s at n turns
+  pub bound : to ≤ to₀ + most * n
+
+so-start : (s out₀ : List ℕ) (to₀ most : ℕ) (rest : List ℕ → List ℕ) → So s out₀ to₀ (rest (placesOf s)) most rest out₀ to₀ 0 0
+unfolding placesOf
+so-start s out₀ to₀ most rest =
+    record { text = []; turns = length s; put = put-none out₀ to₀; left = refl; stands = first s; bound = omega arith }
+
+-- one turn puts a piece more
+module _ (s : List ℕ) (at next : ℕ) (f : Read) (h : at < length s) (g : f ≡ readAt s at) (e : next ≡ placeAfter f (length s)) where
+  so-on : (out₀ whole piece out out′ : List ℕ) (to₀ most to to′ n : ℕ) (rest rest′ : List ℕ → List ℕ) → So s out₀ to₀ whole most rest out to at n
+      → Put out to piece out′ to′ → to′ ≤ to + most → ((ps : List ℕ) → piece ++ rest′ ps ≡ rest (at ∷ ps)) → So s out₀ to₀ whole most rest′ out′ to′ next (n + 1)
+  so-on out₀ whole piece out out′ to₀ most to to′ n rest rest′ i p m r = go (i .turns) refl
+    where
+      go : (k : ℕ) → i .turns ≡ k → So s out₀ to₀ whole most rest′ out′ to′ next (n + 1)
+      go zero t = absurd (omega (arith, i .stands .enough, t))
+      go (suc k) t =
+          let l : i .text ++ (piece ++ rest′ (placesFrom k s next)) ≡ whole =
+          ap (λ (x : List ℕ). i .text ++ x) (r (placesFrom k s next) ∙ ap rest (one-less s at next f h g e k) ∙ ap (λ (x : ℕ). rest (placesFrom x s at)) (sym t)) ∙ i .left in
+          record {
+            text = i .text ++ piece;
+            turns = k;
+            put = put-after p (i .put);
+            left = rw append-assoc l;
+            stands = steps s at next f h g e n k (rw t at (i .stands));
+            bound = omega (arith, m, i .bound);
+          }
+
+-- after the last turn
+so-done : (s out₀ whole out : List ℕ) (to₀ most to at n : ℕ) (rest : List ℕ → List ℕ) (i : So s out₀ to₀ whole most rest out to at n) → length s ≤ at → i .text ++ rest [] ≡ whole
+so-done s out₀ whole out to₀ most to at n rest i h = ap (λ (ps : List ℕ). i .text ++ rest ps) (places-done (i .turns) s at h) ∙ i .left
+
+-- ---- the listing
+
+-- the answer to what was found, by what it is
+pub answer-by : (f g : Read) (c : Call) (o : Outcome) → f ≡ g → o ≡ answerOf g c → o ≡ answerOf f c
+answer-by f g c o e h = h ∙ ap (λ (r : Read). answerOf r c) (sym e)
+
+abbrev pub Listed : List ℕ → List ℕ → ℕ → List ℕ → ℕ → ℕ → ℕ → Call → Type 0
+Listed s out₀ to₀ out to at n c = So s out₀ to₀ (recordsOf s) longestRecord (restOf s n c) out to at n
+
+pub listed-start : (s out₀ : List ℕ) (to₀ : ℕ) (c : Call) → c ≡ unopenedCall → Listed s out₀ to₀ out₀ to₀ 0 0 c
+unfolding recordsOf
+listed-start s out₀ to₀ c e = rw e (so-start s out₀ to₀ longestRecord (restOf s 0 unopenedCall))
+
+pub listed-on : (s out₀ out out′ : List ℕ) (to₀ to to′ at next n : ℕ) (c : Call) (f : Read) (o : Outcome) → Listed s out₀ to₀ out to at n c → at < length s
+    → f ≡ readAt s at → o ≡ answerOf f c → Put out to (recordText (n + 1) o) out′ to′ → to′ ≤ to + longestRecord → next ≡ placeAfter f (length s)
+    → Listed s out₀ to₀ out′ to′ next (n + 1) (o .call)
+unfolding restOf
+listed-on s out₀ out out′ to₀ to to′ at next n c f o i h g d p m e =
+    so-on s at next f h g e out₀ (recordsOf s) (recordText (n + 1) o) out out′ to₀ longestRecord to to′ n (restOf s n c) (restOf s (n + 1) (o .call)) i p m (λ ps. rw (d, g))
+
+pub listed-done : (s old out₀ out out′ : List ℕ) (to₀ to at n r : ℕ) (c : Call) → Listed s out₀ to₀ out to at n c → length s ≤ at → Put old 0 (ascii "REV 1\n") out₀ to₀
+    → Put out to (numberedLine (ascii "END ") n) out′ r → Put old 0 (listingOf s) out′ r
+unfolding listingOf restOf
+listed-done s old out₀ out out′ to₀ to at n r c i h p l =
+    put-after (put-as (so-done s out₀ (recordsOf s) out to₀ longestRecord to at n (restOf s n c) i h) (put-after l (i .put))) p
+
+-- ---- the dump
+
+abbrev pub Dumped : List ℕ → List ℕ → ℕ → List ℕ → ℕ → ℕ → ℕ → Type 0
+Dumped s out₀ to₀ out to at n = So s out₀ to₀ (placesText s 0 (placesOf s)) longestPlace (placesText s n) out to at n
+
+pub dumped-start : (s out₀ : List ℕ) (to₀ : ℕ) → Dumped s out₀ to₀ out₀ to₀ 0 0
+dumped-start s out₀ to₀ = so-start s out₀ to₀ longestPlace (placesText s 0)
+
+pub dumped-on : (s out₀ out out′ : List ℕ) (to₀ to to′ at next n : ℕ) (f : Read) → Dumped s out₀ to₀ out to at n → at < length s
+    → f ≡ readAt s at → Put out to (placeText (n + 1) f at) out′ to′ → to′ ≤ to + longestPlace → next ≡ placeAfter f (length s)
+    → Dumped s out₀ to₀ out′ to′ next (n + 1)
+unfolding placesText
+dumped-on s out₀ out out′ to₀ to to′ at next n f i h g p m e =
+    so-on s at next f h g e out₀ (placesText s 0 (placesOf s)) (placeText (n + 1) f at) out out′ to₀ longestPlace to to′ n (placesText s n) (placesText s (n + 1)) i p m (λ ps. rw g)
+
+pub dumped-done : (s old out₀ out : List ℕ) (to₀ to at n k : ℕ) → Dumped s out₀ to₀ out to at n → length s ≤ at → k ≡ length (placesOf s) → Put old 0 (numberedLine (ascii "RECORDS ") k) out₀ to₀
+    → Put old 0 (dumpOf s) out to
+unfolding dumpOf placesText
+dumped-done s old out₀ out to₀ to at n k i h e p =
+    put-after (put-as (sym (append-nil (i .text)) ∙ so-done s out₀ (placesText s 0 (placesOf s)) out to₀ longestPlace to at n (placesText s n) i h) (i .put)) (rw e at p)
+
+-- ---- the count of records
+
+pub record Counted (s : List ℕ) (at n : ℕ) : Type 0 where
+  pub turns : ℕ
+  pub left : n + length (placesFrom turns s at) ≡ length (placesOf s)
+  pub stands : Stands s at n turns
+
+pub counted-start : (s : List ℕ) → Counted s 0 0
+unfolding placesOf
+counted-start s = record { turns = length s; left = omega arith; stands = first s }
+
+pub counted-on : (s : List ℕ) (at next n : ℕ) (f : Read) → Counted s at n → at < length s → f ≡ readAt s at → next ≡ placeAfter f (length s) → Counted s next (n + 1)
+counted-on s at next n f i h g e = go (i .turns) refl
+  where
+    go : (k : ℕ) → i .turns ≡ k → Counted s next (n + 1)
+    go zero t = absurd (omega (arith, i .stands .enough, t))
+    go (suc k) t =
         record {
-          text = i .text ++ recordText (n + 1) o;
           turns = k;
-          put = put-after p (i .put);
-          left = rw append-assoc l;
-          within = moves .1;
-          enough = omega (arith, moves, i .enough, t);
-          count = omega (arith, moves, i .count);
-          bound = omega (arith, m, i .bound);
+          left = omega (arith, i .left, ap (λ (x : ℕ). length (placesFrom x s at)) t, ap length (one-less s at next f h g e k));
+          stands = steps s at next f h g e n k (rw t at (i .stands));
         }
 
-    pub loop-on : So s out₀ to₀ out′ to′ next (n + 1) (o .call)
-    loop-on = go (i .turns) refl
-      where
-        go : (k : ℕ) → i .turns ≡ k → So s out₀ to₀ out′ to′ next (n + 1) (o .call)
-        go zero t = absurd (omega (arith, i .enough, t))
-        go (suc k) t = so-on k t
+pub counted-done : (s : List ℕ) (at n : ℕ) → Counted s at n → length s ≤ at → n ≡ length (placesOf s)
+counted-done s at n i h = omega (arith, i .left, ap length (places-done (i .turns) s at h))
 
--- after the last turn, with the first line put before and the last line put
-pub loop-done : (s old out₀ out out′ : List ℕ) (to₀ to at n r : ℕ) (c : Call) → So s out₀ to₀ out to at n c → length s ≤ at → Put old 0 (ascii "REV 1\n") out₀ to₀
-    → Put out to (numberedLine (ascii "END ") n) out′ r → Put old 0 (listingOf s) out′ r
-unfolding listingOf
-loop-done s old out₀ out out′ to₀ to at n r c i h p l =
-    put-after (put-as (ap (λ (x : List ℕ). i .text ++ x) (rest-done (i .turns) s at n c h) ∙ i .left) (put-after l (i .put))) p
+-- a file has at most as many records as bytes
+most-places : (k : ℕ) (s : List ℕ) (at : ℕ) → length (placesFrom k s at) ≤ k
+unfolding placesFrom
+most-places zero s at = omega arith
+most-places (suc k) s at =
+    both-lt at (length s) (λ (ps : List ℕ). length ps ≤ suc k) _ _ (λ _. omega (arith, most-places k s (placeAfter (readAt s at) (length s)))) (λ _. omega arith)
+
+pub records-most : (s : List ℕ) → length (placesOf s) ≤ length s
+unfolding placesOf
+records-most s = most-places (length s) s 0

@@ -1,6 +1,9 @@
 pub mod Bodies
 pub mod Bytes
+pub mod Dump
+pub mod Fit
 pub mod Frames
 pub mod Lines
 pub mod Listing
 pub mod Messages
+pub mod Places

@@ -5,14 +5,25 @@
 // Every read and every store is total: a byte past the end of the file is 0, a byte past the end of the buffer is not stored.
 mod bodies;
 mod bytes;
+mod dump;
+mod fit;
 mod frames;
 mod lines;
 mod listing;
 mod messages;
+mod places;
 
 pub use bodies::read_at;
-pub use listing::rev_listing;
+pub use fit::rev_dump;
+pub use fit::rev_listing;
+pub use places::count_records;
 use rows::Event;
+
+// The texts of a file.
+pub enum Shown {
+    Listing,
+    Dump,
+}
 
 // A record's frame: the number at which reading stops; or its kind and the place after it.
 pub enum Frame {

@@ -3,18 +3,15 @@ ghost use mathlib.Core.Path.{_≡_};
 ghost use Prim.Native.Nat.{_≤_};
 ghost use lib.ListN.{length};
 ghost use Rattle.text.specs.Text.{Put};
-ghost use Rattle.files.specs.Listing.{answerOf, placeAfter, longest, listingOf, answers, leaves};
+ghost use Rattle.files.specs.Listing.{answerOf, listingOf};
+ghost use Rattle.files.specs.Places.{longest};
 use crate::Read;
 use crate::bodies::read_at;
 use crate::lines::put_numbered_line;
 use crate::lines::put_record;
+use crate::places::place_after;
 use rows::Call;
 use rows::Outcome;
-
-// 01: a file has at most this many bytes; the number given back for a longer one, or for a buffer too short.
-const LONGEST: usize = 65536;
-
-const TOO_LONG: usize = 8;
 
 // The answer to what stands at a place: a record that cannot be read is refused with its number.
 fn answer(found: Read, call: Call) -> Outcome
@@ -27,19 +24,8 @@ fn answer(found: Read, call: Call) -> Outcome
     }
 }
 
-// The place after it: reading stops at a record that cannot be read, so that is the file's end.
-fn place_after(found: Read, end: usize) -> usize
-    ensures { λ r. ⌜ r ≡ placeAfter found end ⌝ }
-{
-    match found {
-        Read::End => end,
-        Read::Stop(_) => end,
-        Read::Got(_, next) => next,
-    }
-}
-
 // The whole listing as far as the buffer goes, and its length.
-fn write(file: &[u8], out: &mut [u8]) -> usize
+pub(crate) fn write(file: &[u8], out: &mut [u8]) -> usize
     requires { ⌜ length (now file) ≤ longest ⌝ }
     ensures { λ r. ⌜ Put (now (out .entry)) 0 (listingOf (now (file .entry))) (now (out .exit)) r ⌝ }
 {
@@ -56,20 +42,4 @@ fn write(file: &[u8], out: &mut [u8]) -> usize
         call = o.call;
     }
     put_numbered_line(out, to, b"END ", count)
-}
-
-// The listing of a file in a buffer of any size: its length; or 8, and the buffer as it was.
-#[no_mangle]
-pub extern "C" fn rev_listing(file: &[u8], out: &mut [u8]) -> usize
-    ensures { λ r. ⌜ (r ≡ answers (now (file .entry)) (now (out .entry))) × (now (out .exit) ≡ leaves (now (file .entry)) (now (out .entry))) ⌝ }
-{
-    if LONGEST < file.len() {
-        return TOO_LONG;
-    }
-    // measured first: nothing is stored in a buffer of no bytes
-    let n = write(file, &mut out[..0]);
-    if out.len() < n {
-        return TOO_LONG;
-    }
-    write(file, out)
 }

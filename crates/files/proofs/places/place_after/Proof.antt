@@ -1,7 +1,7 @@
 use borrow.Author.Needs.{needs}
-use Rattle.files.specs.Listing.{placeAfter}
-use Rattle.files.proofs.listing.place_after.Statement.{statement}
-use Rattle.files.proofs.listing.place_after.Tie as tie
+use Rattle.files.specs.Places.{placeAfter}
+use Rattle.files.proofs.places.place_after.Statement.{statement}
+use Rattle.files.proofs.places.place_after.Tie as tie
 
 pub place-after-spec : {M : Type 1} → statement M
 unfolding placeAfter

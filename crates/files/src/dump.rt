@@ -1,0 +1,82 @@
+// A dump of a file, for a volunteer who wants to see what the board wrote: each record's ordinal, kind and place.
+ghost use Prim.Native.Nat.{_+_, _≤_, _<_, _^_};
+ghost use lib.ListN.{length};
+ghost use Rattle.text.specs.Text.{Put};
+ghost use Rattle.files.specs.Dump.{stopText, eventText, kindText, placeText, longestPlace, dumpOf};
+ghost use Rattle.files.specs.Places.{longest};
+use crate::Read;
+use crate::bodies::read_at;
+use crate::lines::put_numbered_line;
+use crate::places::count_records;
+use crate::places::place_after;
+use rows::Event;
+
+fn put_stop(out: &mut [u8], at: usize, number: u8) -> usize
+    requires { ⌜ at < 2 ^ 60 ⌝ }
+    ensures { λ r. ⌜ Put (now (out .entry)) at (stopText number) (now (out .exit)) r ⌝ }
+    ensures { λ r. ⌜ r ≤ at + 13 ⌝ }
+{
+    if number == 5 {
+        return text::put_word(out, at, b" CUT-SHORT");
+    }
+    if number == 6 {
+        return text::put_word(out, at, b" BAD-LENGTH");
+    }
+    text::put_word(out, at, b" UNKNOWN-KIND")
+}
+
+fn put_event(out: &mut [u8], at: usize, e: Event) -> usize
+    requires { ⌜ at < 2 ^ 60 ⌝ }
+    ensures { λ r. ⌜ Put (now (out .entry)) at (eventText e) (now (out .exit)) r ⌝ }
+    ensures { λ r. ⌜ r ≤ at + 8 ⌝ }
+{
+    match e {
+        Event::Opening(_, _, _) => text::put_word(out, at, b" OPENING"),
+        Event::Ask(_, _) => text::put_word(out, at, b" REQUEST"),
+        Event::Received(_) => text::put_word(out, at, b" MESSAGE"),
+        Event::FromAccess(_, _) => text::put_word(out, at, b" ACCESS"),
+        Event::Expiry => text::put_word(out, at, b" EXPIRY"),
+        Event::Time(_) => text::put_word(out, at, b" TIME"),
+    }
+}
+
+// The kind of a record, or why it cannot be read.
+fn put_kind(out: &mut [u8], at: usize, found: Read) -> usize
+    requires { ⌜ at < 2 ^ 60 ⌝ }
+    ensures { λ r. ⌜ Put (now (out .entry)) at (kindText found) (now (out .exit)) r ⌝ }
+    ensures { λ r. ⌜ r ≤ at + 13 ⌝ }
+{
+    match found {
+        Read::End => at,
+        Read::Stop(number) => put_stop(out, at, number),
+        Read::Got(e, _) => put_event(out, at, e),
+    }
+}
+
+fn put_place(out: &mut [u8], to: usize, ordinal: u32, found: Read, at: u32) -> usize
+    requires { ⌜ to < 2 ^ 58 ⌝ }
+    ensures { λ r. ⌜ Put (now (out .entry)) to (placeText ordinal found at) (now (out .exit)) r ⌝ }
+    ensures { λ r. ⌜ r ≤ to + longestPlace ⌝ }
+{
+    let kind = text::put_dec(out, to, ordinal);
+    let place = put_kind(out, kind, found);
+    put_numbered_line(out, place, b" ", at)
+}
+
+// The whole dump as far as the buffer goes, and its length.
+pub(crate) fn write(file: &[u8], out: &mut [u8]) -> usize
+    requires { ⌜ length (now file) ≤ longest ⌝ }
+    ensures { λ r. ⌜ Put (now (out .entry)) 0 (dumpOf (now (file .entry))) (now (out .exit)) r ⌝ }
+{
+    let all = count_records(file);
+    let mut to = put_numbered_line(out, 0, b"RECORDS ", all as u32);
+    let mut at: usize = 0;
+    let mut count: u32 = 0;
+    while at < file.len() {
+        let found = read_at(file, at);
+        count += 1;
+        to = put_place(out, to, count, found, at as u32);
+        at = place_after(found, file.len());
+    }
+    to
+}
