@@ -9,14 +9,8 @@ use lib.ListN.{length, take, drop}
 use lib.Seq.{sets, sets-eq, length-take-le}
 use Rattle.text.specs.Text.{Put}
 use Rattle.text.proofs.Cases.{yes-lt, no-lt, both-lt}
-use Rattle.text.proofs.Laws.{put-by}
-use Rattle.files.specs.Fit.{textOf, tooLong, answers, leaves}
+use Rattle.files.specs.Fit.{tooLong, answers, leaves}
 use Rattle.files.specs.Places.{longest}
-use Rattle.files.specs.declared.Shown.{Shown}
-
--- the text that is shown, by which it is
-pub shown-by : (x y : Shown) (s a b : List ℕ) (i j : ℕ) → x ≡ y → Put a i (textOf y s) b j → Put a i (textOf x s) b j
-shown-by x y s a b i j e p = put-by (λ (z : Shown). textOf z s) x y a b i j e p
 
 -- a front of no bytes, put back, changes nothing
 pub no-front : (e out : List ℕ) → length e ≡ 0 → e ++ drop 0 out ≡ out

@@ -14,7 +14,10 @@ use Rattle.files.specs.Bytes.{byteAt, le2At, part}
 use Rattle.files.specs.Bodies.{componentOf, numberIf, durationIf, messageAt, eventAt, readBy, readAt}
 use Rattle.files.specs.Frames.{lengthOf, frameOf, frameAt}
 use Rattle.files.specs.declared.Frame.{Frame}
+use Rattle.files.specs.Lent.{takenAt}
+use Rattle.files.specs.Places.{placeAfter}
 use Rattle.files.specs.declared.Read.{Read}
+use Rattle.files.specs.declared.Taken.{Taken}
 
 pub past-end : (s : List ℕ) (i : ℕ) → length s ≤ i → 0 ≡ byteAt s i
 past-end s i h = sym (List·getD-eq-default s 0 h)
@@ -43,6 +46,15 @@ module _ (s : List ℕ) (at : ℕ) (f : Frame) (h : at < length s) where
   pub body-as : (kind next : ℕ) (v : Event) → f ≡ Frame.Body kind next → f ≡ frameAt s at → v ≡ eventAt s (at + 4) kind → Read.Got v next ≡ readAt s at
   unfolding readAt
   body-as kind next v e g i = no-le _ _ _ _ _ h (ap (λ (w : Event). Read.Got w next) i ∙ ap (readBy s at) (sym e ∙ g))
+
+pub taken-as : (s : List ℕ) (at next : ℕ) (found : Read) → found ≡ readAt s at → next ≡ placeAfter found at → record { found = found; next = next } ≡ takenAt s at
+unfolding takenAt
+taken-as s at next found e f = rw (f, e)
+
+-- and what one reading gave, by its two parts
+pub taken-is : (s : List ℕ) (at : ℕ) (t : Taken) → t ≡ takenAt s at → (t .found ≡ readAt s at) × (t .next ≡ placeAfter (readAt s at) at)
+unfolding takenAt
+taken-is s at t e = (ap (λ (x : Taken). x .found) e, ap (λ (x : Taken). x .next) e)
 
 -- ---- a record takes 4 bytes at least, and ends within the file
 

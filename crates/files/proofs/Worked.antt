@@ -11,9 +11,9 @@ use Rattle.text.specs.Text.{ascii, lastDigits, decimal, decimalBy, numbered}
 use Rattle.files.specs.Bodies.{openingAt, askAt, componentOf, numberIf, durationIf, messageAt, accessAt, eventAt, readAt}
 use Rattle.files.specs.Bytes.{le2At, le4At, le8At, numberAt}
 use Rattle.files.specs.Frames.{lengthOf, frameOf, frameAt}
-use Rattle.files.specs.Lines.{standText, metersText, lineText, numberedLine, sentText, actionsText, recordText}
+use Rattle.files.specs.Lines.{standText, metersText, lineText, numberedLine, actionsText, recordText}
 use Rattle.files.specs.Listing.{answerOf, restOf, recordsOf, listingOf}
-use Rattle.files.specs.Messages.{nameText, causeText, operationText, withOperation, textIf, withDigits, partsText, valuesText, messageText}
+use Rattle.files.specs.Messages.{operationText, withOperation, textIf, withDigits, partsText, valuesText, carriedText, sentText, releasedText}
 use Rattle.files.specs.Places.{placeAfter, placesFrom, placesOf}
 use Rattle.files.specs.declared.Read.{Read}
 
@@ -60,5 +60,5 @@ worked :
     ++ ascii "> STOP\n"
     ++ ascii "> REL 16\n"
     ++ ascii "END 7\n")
-unfolding case-l listingOf recordsOf restOf answerOf placesOf placesFrom placeAfter recordText actionsText sentText numberedLine lineText metersText standText messageText valuesText partsText withDigits textIf withOperation operationText causeText nameText readAt eventAt accessAt messageAt durationIf numberIf componentOf askAt openingAt frameAt frameOf lengthOf numberAt le8At le4At le2At numbered decimal decimalBy lastDigits ifLt ifLe ifEq ifSo
+unfolding case-l listingOf recordsOf restOf answerOf placesOf placesFrom placeAfter recordText actionsText releasedText sentText carriedText numberedLine lineText metersText standText valuesText partsText withDigits textIf withOperation operationText readAt eventAt accessAt messageAt durationIf numberIf componentOf askAt openingAt frameAt frameOf lengthOf numberAt le8At le4At le2At numbered decimal decimalBy lastDigits ifLt ifLe ifEq ifSo
 worked = (refl, refl, refl, refl, refl, refl)

@@ -4,14 +4,7 @@ use mathlib.Core.List.{List, _++_}
 use Prim.Native.Nat.{ℕ}
 use lib.ListN.{length, drop}
 use Rattle.text.specs.Choose.{ifLt}
-use Rattle.files.specs.Dump.{dumpOf}
-use Rattle.files.specs.Listing.{listingOf}
 use Rattle.files.specs.Places.{longest}
-use Rattle.files.specs.declared.Shown.{Shown}
-
-abbrev pub textOf : Shown → List ℕ → List ℕ
-textOf Shown.Listing s = listingOf s
-textOf Shown.Dump s = dumpOf s
 
 -- 8: "listing longer than its buffer, or file too long"
 abbrev pub tooLong : ℕ

@@ -3,6 +3,7 @@ pub mod Bytes
 pub mod Dump
 pub mod Fit
 pub mod Frames
+pub mod Lent
 pub mod Lines
 pub mod Listing
 pub mod Messages

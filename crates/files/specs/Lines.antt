@@ -6,14 +6,14 @@ use Prim.Native.Nat.{ℕ}
 use Rattle.meters.specs.declared.Meters.{Meters}
 use Rattle.text.specs.Choose.{ifEq}
 use Rattle.text.specs.Text.{ascii, decimal, numbered}
-use Rattle.rows.specs.declared.Action.{Action}
+use Rattle.rows.specs.declared.Act.{Act}
 use Rattle.rows.specs.declared.Call.{Call}
 use Rattle.rows.specs.declared.Note.{Note}
 use Rattle.rows.specs.declared.Outcome.{Outcome}
 use Rattle.rows.specs.declared.Phase.{Phase}
 use Rattle.rows.specs.declared.RevState.{RevState}
 use Rattle.rows.specs.declared.Stand.{Stand}
-use Rattle.files.specs.Messages.{messageText}
+use Rattle.files.specs.Messages.{sentText, releasedText}
 
 -- 01: "Before the opening NONE and IDLE"
 abbrev pub phaseText : Phase → List ℕ
@@ -47,21 +47,21 @@ lineText ordinal number call =
 unfoldable pub numberedLine : List ℕ → ℕ → List ℕ
 numberedLine word n = numbered word n ++ ascii "\n"
 
-unfoldable pub sentText : ℕ → Note → List ℕ
-sentText kind m = ascii "> " ++ messageText kind m ++ ascii "\n"
-
 -- "An action is one of ..; or a message"; Nothing is none
-abbrev pub actionText : Note → Action → List ℕ
-actionText m Action.Nothing = []
-actionText m Action.NotifyAccepted = ascii "> NOTIFY ACCEPTED\n"
-actionText m Action.AccessSetup = ascii "> ACCESS SETUP\n"
-actionText m Action.AccessAsk = ascii "> ACCESS ASK\n"
-actionText m (Action.AccessError n) = numberedLine (ascii "> ACCESS ERROR ") n
-actionText m (Action.AccessRel cause) = numberedLine (ascii "> ACCESS REL ") cause
-actionText m Action.ChargeCalling = ascii "> CHARGE CALLING\n"
-actionText m Action.ChargeCalled = ascii "> CHARGE CALLED\n"
-actionText m Action.Stop = ascii "> STOP\n"
-actionText m (Action.Send kind) = sentText kind m
+abbrev pub actionText : Note → Act → List ℕ
+actionText m Act.Nothing = []
+actionText m Act.NotifyAccepted = ascii "> NOTIFY ACCEPTED\n"
+actionText m Act.AccessSetup = ascii "> ACCESS SETUP\n"
+actionText m Act.AccessAsk = ascii "> ACCESS ASK\n"
+actionText m Act.AccessError = numberedLine (ascii "> ACCESS ERROR ") (m .error)
+actionText m Act.AccessRel = numberedLine (ascii "> ACCESS REL ") (m .cause)
+actionText m Act.ChargeCalling = ascii "> CHARGE CALLING\n"
+actionText m Act.ChargeCalled = ascii "> CHARGE CALLED\n"
+actionText m Act.Stop = ascii "> STOP\n"
+actionText m Act.SendIam = sentText (ascii "> IAM") m
+actionText m Act.SendAnm = sentText (ascii "> ANM") m
+actionText m Act.SendRel = releasedText m
+actionText m Act.SendFac = sentText (ascii "> FAC") m
 
 unfoldable pub actionsText : Outcome → List ℕ
 actionsText o = actionText (o .note) (o .first) ++ actionText (o .note) (o .second) ++ actionText (o .note) (o .third) ++ actionText (o .note) (o .fourth)

@@ -1,4 +1,4 @@
--- The text of a message that is sent. 01: "a message name, for REL its cause, then its component, then its parts in bit order".
+-- The line of a message that is sent. 01: "a message name, for REL its cause, then its component, then its parts in bit order".
 -- Assumes nothing.
 use mathlib.Core.List.{List, [], _++_}
 use Prim.Native.Nat.{ℕ}
@@ -9,14 +9,6 @@ use Rattle.rows.specs.declared.Component.the-variants.{Absent, Invoke, Result, 
 use Rattle.rows.specs.declared.Note.{Note}
 use Rattle.rows.specs.declared.Number.{Number}
 use Rattle.files.specs.Bytes.{part}
-
--- 01, kind 3: 1 IAM, 2 ANM, 3 CON, 4 REL, 5 FAC
-unfoldable pub nameText : ℕ → List ℕ
-nameText kind = ifEq kind 1 (ascii "IAM") (ifEq kind 2 (ascii "ANM") (ifEq kind 3 (ascii "CON") (ifEq kind 4 (ascii "REL") (ascii "FAC"))))
-
--- "for REL its cause"
-unfoldable pub causeText : ℕ → ℕ → List ℕ
-causeText kind cause = ifEq kind 4 (numbered (ascii " ") cause) []
 
 -- 1 SETUP, 2 ACTIVE, 3 CALLED
 unfoldable pub operationText : ℕ → List ℕ
@@ -57,6 +49,13 @@ valuesText m =
     ++ textIf (part (m .parts) 32) (withDigits (ascii " CALLED ") (m .called))
     ++ textIf (part (m .parts) 64) (numbered (ascii " DURATION ") (m .duration))
 
-unfoldable pub messageText : ℕ → Note → List ℕ
-messageText kind m =
-    nameText kind ++ causeText kind (m .cause) ++ componentText (m .component) ++ partsText (m .parts) ++ valuesText m
+-- "then its component, then its parts in bit order"; "Lines end in one newline"
+unfoldable pub carriedText : Note → List ℕ
+carriedText m = componentText (m .component) ++ partsText (m .parts) ++ valuesText m ++ ascii "\n"
+
+-- "a message name", "for REL its cause"
+unfoldable pub sentText : List ℕ → Note → List ℕ
+sentText name m = name ++ carriedText m
+
+unfoldable pub releasedText : Note → List ℕ
+releasedText m = numbered (ascii "> REL ") (m .cause) ++ carriedText m

@@ -1,12 +1,16 @@
 // A dump of a file, for a volunteer who wants to see what the board wrote: each record's ordinal, kind and place.
+ghost use mathlib.Core.Path.{_≡_};
 ghost use Prim.Native.Nat.{_+_, _≤_, _<_, _^_};
 ghost use lib.ListN.{length};
 ghost use Rattle.text.specs.Text.{Put};
 ghost use Rattle.files.specs.Dump.{stopText, eventText, kindText, placeText, longestPlace, dumpOf};
+ghost use Rattle.files.specs.Fit.{answers, leaves};
 ghost use Rattle.files.specs.Places.{longest};
 use crate::Read;
-use crate::bodies::read_at;
+use crate::lent::found_at;
 use crate::lines::put_numbered_line;
+use crate::places::LONGEST;
+use crate::places::TOO_LONG;
 use crate::places::count_records;
 use crate::places::place_after;
 use rows::Event;
@@ -64,7 +68,7 @@ fn put_place(out: &mut [u8], to: usize, ordinal: u32, found: Read, at: u32) -> u
 }
 
 // The whole dump as far as the buffer goes, and its length.
-pub(crate) fn write(file: &[u8], out: &mut [u8]) -> usize
+fn write(file: &[u8], out: &mut [u8]) -> usize
     requires { ⌜ length (now file) ≤ longest ⌝ }
     ensures { λ r. ⌜ Put (now (out .entry)) 0 (dumpOf (now (file .entry))) (now (out .exit)) r ⌝ }
 {
@@ -73,10 +77,25 @@ pub(crate) fn write(file: &[u8], out: &mut [u8]) -> usize
     let mut at: usize = 0;
     let mut count: u32 = 0;
     while at < file.len() {
-        let found = read_at(file, at);
+        let found = found_at(file, at);
         count += 1;
         to = put_place(out, to, count, found, at as u32);
         at = place_after(found, file.len());
     }
     to
+}
+
+// The dump of a file in a buffer of any size: its length; or 8, and the buffer as it was.
+pub fn rev_dump(file: &[u8], out: &mut [u8]) -> usize
+    ensures { λ r. ⌜ (r ≡ answers (now (file .entry)) (dumpOf (now (file .entry))) (now (out .entry))) × (now (out .exit) ≡ leaves (now (file .entry)) (dumpOf (now (file .entry))) (now (out .entry))) ⌝ }
+{
+    if LONGEST < file.len() {
+        return TOO_LONG;
+    }
+    // measured first: nothing is stored in a buffer of no bytes
+    let n = write(file, &mut out[..0]);
+    if out.len() < n {
+        return TOO_LONG;
+    }
+    write(file, out)
 }

@@ -6,24 +6,22 @@
 mod bodies;
 mod bytes;
 mod dump;
-mod fit;
 mod frames;
+mod lent;
 mod lines;
 mod listing;
 mod messages;
 mod places;
 
 pub use bodies::read_at;
-pub use fit::rev_dump;
-pub use fit::rev_listing;
+pub use dump::rev_dump;
+pub use lent::found_at;
+pub use lent::left;
+pub use lent::next;
+pub use lent::open;
+pub use listing::rev_listing;
 pub use places::count_records;
 use rows::Event;
-
-// The texts of a file.
-pub enum Shown {
-    Listing,
-    Dump,
-}
 
 // A record's frame: the number at which reading stops; or its kind and the place after it.
 pub enum Frame {
@@ -37,4 +35,16 @@ pub enum Read {
     End,
     Stop(u8),
     Got(Event, usize),
+}
+
+// A reader that remembers the bytes it was lent, and its place in them.
+pub struct Reader<'a> {
+    pub src: &'a [u8],
+    pub at: usize,
+}
+
+// What one reading gives: what was found, and the place where that leaves the reader.
+pub struct Taken {
+    pub found: Read,
+    pub next: usize,
 }

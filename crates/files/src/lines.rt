@@ -2,10 +2,11 @@
 ghost use Prim.Native.Nat.{_+_, _≤_, _<_, _^_};
 ghost use lib.ListN.{length};
 ghost use Rattle.text.specs.Text.{Put};
-ghost use Rattle.files.specs.Lines.{phaseText, revText, standText, metersText, lineText, numberedLine, sentText, actionText, actionsText, recordText, longestRecord};
-use crate::messages::put_message;
+ghost use Rattle.files.specs.Lines.{phaseText, revText, standText, metersText, lineText, numberedLine, actionText, actionsText, recordText, longestRecord};
+use crate::messages::put_released;
+use crate::messages::put_sent;
 use meters::Meters;
-use rows::Action;
+use rows::Act;
 use rows::Call;
 use rows::Note;
 use rows::Outcome;
@@ -90,33 +91,26 @@ pub fn put_numbered_line(out: &mut [u8], at: usize, word: &[u8], n: u32) -> usiz
     text::put(out, to, b'\n')
 }
 
-fn put_sent(out: &mut [u8], at: usize, kind: u8, m: Note) -> usize
-    requires { ⌜ at < 2 ^ 58 ⌝ }
-    ensures { λ r. ⌜ Put (now (out .entry)) at (sentText kind m) (now (out .exit)) r ⌝ }
-    ensures { λ r. ⌜ r ≤ at + 619 ⌝ }
-{
-    let mut to = text::put_word(out, at, b"> ");
-    to = put_message(out, to, kind, m);
-    text::put(out, to, b'\n')
-}
-
-// An action's line, or its message's with what it carries; none for Nothing.
-fn put_action(out: &mut [u8], at: usize, a: Action, m: Note) -> usize
+// An action's line, with what it carries; none for Nothing.
+fn put_action(out: &mut [u8], at: usize, a: Act, m: Note) -> usize
     requires { ⌜ at < 2 ^ 58 ⌝ }
     ensures { λ r. ⌜ Put (now (out .entry)) at (actionText m a) (now (out .exit)) r ⌝ }
     ensures { λ r. ⌜ r ≤ at + 619 ⌝ }
 {
     match a {
-        Action::Nothing => at,
-        Action::NotifyAccepted => text::put_word(out, at, b"> NOTIFY ACCEPTED\n"),
-        Action::AccessSetup => text::put_word(out, at, b"> ACCESS SETUP\n"),
-        Action::AccessAsk => text::put_word(out, at, b"> ACCESS ASK\n"),
-        Action::AccessError(n) => put_numbered_line(out, at, b"> ACCESS ERROR ", n as u32),
-        Action::AccessRel(cause) => put_numbered_line(out, at, b"> ACCESS REL ", cause as u32),
-        Action::ChargeCalling => text::put_word(out, at, b"> CHARGE CALLING\n"),
-        Action::ChargeCalled => text::put_word(out, at, b"> CHARGE CALLED\n"),
-        Action::Stop => text::put_word(out, at, b"> STOP\n"),
-        Action::Send(kind) => put_sent(out, at, kind, m),
+        Act::Nothing => at,
+        Act::NotifyAccepted => text::put_word(out, at, b"> NOTIFY ACCEPTED\n"),
+        Act::AccessSetup => text::put_word(out, at, b"> ACCESS SETUP\n"),
+        Act::AccessAsk => text::put_word(out, at, b"> ACCESS ASK\n"),
+        Act::AccessError => put_numbered_line(out, at, b"> ACCESS ERROR ", m.error as u32),
+        Act::AccessRel => put_numbered_line(out, at, b"> ACCESS REL ", m.cause as u32),
+        Act::ChargeCalling => text::put_word(out, at, b"> CHARGE CALLING\n"),
+        Act::ChargeCalled => text::put_word(out, at, b"> CHARGE CALLED\n"),
+        Act::Stop => text::put_word(out, at, b"> STOP\n"),
+        Act::SendIam => put_sent(out, at, b"> IAM", m),
+        Act::SendAnm => put_sent(out, at, b"> ANM", m),
+        Act::SendRel => put_released(out, at, m),
+        Act::SendFac => put_sent(out, at, b"> FAC", m),
     }
 }
 

@@ -3,12 +3,15 @@ ghost use mathlib.Core.Path.{_≡_};
 ghost use Prim.Native.Nat.{_≤_};
 ghost use lib.ListN.{length};
 ghost use Rattle.text.specs.Text.{Put};
+ghost use Rattle.files.specs.Fit.{answers, leaves};
 ghost use Rattle.files.specs.Listing.{answerOf, listingOf};
 ghost use Rattle.files.specs.Places.{longest};
 use crate::Read;
 use crate::bodies::read_at;
 use crate::lines::put_numbered_line;
 use crate::lines::put_record;
+use crate::places::LONGEST;
+use crate::places::TOO_LONG;
 use crate::places::place_after;
 use rows::Call;
 use rows::Outcome;
@@ -25,7 +28,7 @@ fn answer(found: Read, call: Call) -> Outcome
 }
 
 // The whole listing as far as the buffer goes, and its length.
-pub(crate) fn write(file: &[u8], out: &mut [u8]) -> usize
+fn write(file: &[u8], out: &mut [u8]) -> usize
     requires { ⌜ length (now file) ≤ longest ⌝ }
     ensures { λ r. ⌜ Put (now (out .entry)) 0 (listingOf (now (file .entry))) (now (out .exit)) r ⌝ }
 {
@@ -42,4 +45,20 @@ pub(crate) fn write(file: &[u8], out: &mut [u8]) -> usize
         call = o.call;
     }
     put_numbered_line(out, to, b"END ", count)
+}
+
+// The listing of a file in a buffer of any size: its length; or 8, and the buffer as it was.
+#[no_mangle]
+pub extern "C" fn rev_listing(file: &[u8], out: &mut [u8]) -> usize
+    ensures { λ r. ⌜ (r ≡ answers (now (file .entry)) (listingOf (now (file .entry))) (now (out .entry))) × (now (out .exit) ≡ leaves (now (file .entry)) (listingOf (now (file .entry))) (now (out .entry))) ⌝ }
+{
+    if LONGEST < file.len() {
+        return TOO_LONG;
+    }
+    // measured first: nothing is stored in a buffer of no bytes
+    let n = write(file, &mut out[..0]);
+    if out.len() < n {
+        return TOO_LONG;
+    }
+    write(file, out)
 }

@@ -1,42 +1,11 @@
-// The text of a message that is sent: its name, for REL its cause, its component, its parts in bit order.
+// The line of a message that is sent: its name, for REL its cause, its component, its parts in bit order.
 ghost use Prim.Native.Nat.{_+_, _≤_, _<_, _^_};
 ghost use lib.ListN.{length};
 ghost use Rattle.text.specs.Text.{Put, ascii, numbered};
-ghost use Rattle.files.specs.Messages.{nameText, causeText, operationText, withOperation, componentText, textIf, withDigits, partsText, valuesText, messageText};
+ghost use Rattle.files.specs.Messages.{operationText, withOperation, componentText, textIf, withDigits, partsText, valuesText, carriedText, sentText, releasedText};
 use rows::Component;
 use rows::Note;
 use rows::Number;
-
-fn put_name(out: &mut [u8], at: usize, kind: u8) -> usize
-    requires { ⌜ at < 2 ^ 60 ⌝ }
-    ensures { λ r. ⌜ Put (now (out .entry)) at (nameText kind) (now (out .exit)) r ⌝ }
-    ensures { λ r. ⌜ r ≤ at + 3 ⌝ }
-{
-    if kind == 1 {
-        return text::put_word(out, at, b"IAM");
-    }
-    if kind == 2 {
-        return text::put_word(out, at, b"ANM");
-    }
-    if kind == 3 {
-        return text::put_word(out, at, b"CON");
-    }
-    if kind == 4 {
-        return text::put_word(out, at, b"REL");
-    }
-    text::put_word(out, at, b"FAC")
-}
-
-fn put_cause(out: &mut [u8], at: usize, kind: u8, cause: u8) -> usize
-    requires { ⌜ at < 2 ^ 60 ⌝ }
-    ensures { λ r. ⌜ Put (now (out .entry)) at (causeText kind cause) (now (out .exit)) r ⌝ }
-    ensures { λ r. ⌜ r ≤ at + 11 ⌝ }
-{
-    if kind == 4 {
-        return text::put_numbered(out, at, b" ", cause as u32);
-    }
-    at
-}
 
 fn put_operation(out: &mut [u8], at: usize, operation: u8) -> usize
     requires { ⌜ at < 2 ^ 61 ⌝ }
@@ -150,16 +119,34 @@ fn put_values(out: &mut [u8], at: usize, m: Note) -> usize
     put_duration_if(out, to, parts / 64 % 2, m.duration)
 }
 
-// A message of a kind, with what it carries.
-pub fn put_message(out: &mut [u8], at: usize, kind: u8, m: Note) -> usize
+// What stands after a message's name, to the end of its line.
+fn put_carried(out: &mut [u8], at: usize, m: Note) -> usize
     requires { ⌜ at < 2 ^ 59 ⌝ }
-    ensures { λ r. ⌜ Put (now (out .entry)) at (messageText kind m) (now (out .exit)) r ⌝ }
-    ensures { λ r. ⌜ r ≤ at + 616 ⌝ }
+    ensures { λ r. ⌜ Put (now (out .entry)) at (carriedText m) (now (out .exit)) r ⌝ }
+    ensures { λ r. ⌜ r ≤ at + 603 ⌝ }
 {
     let component = m.component;
-    let mut to = put_name(out, at, kind);
-    to = put_cause(out, to, kind, m.cause);
-    to = put_component(out, to, component);
+    let mut to = put_component(out, at, component);
     to = put_parts(out, to, m.parts);
-    put_values(out, to, m)
+    to = put_values(out, to, m);
+    text::put(out, to, b'\n')
+}
+
+pub fn put_sent(out: &mut [u8], at: usize, name: &[u8], m: Note) -> usize
+    requires { ⌜ at + length (now name) < 2 ^ 59 ⌝ }
+    ensures { λ r. ⌜ Put (now (out .entry)) at (sentText (now (name .entry)) m) (now (out .exit)) r ⌝ }
+    ensures { λ r. ⌜ r ≤ at + length (now (name .entry)) + 603 ⌝ }
+{
+    let to = text::put_word(out, at, name);
+    put_carried(out, to, m)
+}
+
+// REL alone says its cause.
+pub fn put_released(out: &mut [u8], at: usize, m: Note) -> usize
+    requires { ⌜ at < 2 ^ 58 ⌝ }
+    ensures { λ r. ⌜ Put (now (out .entry)) at (releasedText m) (now (out .exit)) r ⌝ }
+    ensures { λ r. ⌜ r ≤ at + 619 ⌝ }
+{
+    let to = text::put_numbered(out, at, b"> REL ", m.cause as u32);
+    put_carried(out, to, m)
 }

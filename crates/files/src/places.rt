@@ -3,7 +3,12 @@ ghost use mathlib.Core.Path.{_≡_};
 ghost use lib.ListN.{length};
 ghost use Rattle.files.specs.Places.{placeAfter, placesOf};
 use crate::Read;
-use crate::bodies::read_at;
+use crate::lent::found_at;
+
+// 01: a file has at most this many bytes; the number given back for a longer one, or for a buffer too short.
+pub(crate) const LONGEST: usize = 65536;
+
+pub(crate) const TOO_LONG: usize = 8;
 
 // The place after what was found; where there is no record, or none that can be read, `stay`.
 pub fn place_after(found: Read, stay: usize) -> usize
@@ -23,7 +28,7 @@ pub fn count_records(file: &[u8]) -> usize
     let mut at: usize = 0;
     let mut count: usize = 0;
     while at < file.len() {
-        let found = read_at(file, at);
+        let found = found_at(file, at);
         count += 1;
         at = place_after(found, file.len());
     }

@@ -3,7 +3,7 @@
 use Prim.Native.Nat.{ℕ}
 use mathlib.Core.Bool.{Bool, true, false}
 use lib.Dec.{eqb, leb}
-use Rattle.rows.specs.Numbers.{applied, tooMuch, nobodyPays, iam, anm, rel, fac, noPart, callingPart, calledPart, durationPart}
+use Rattle.rows.specs.Numbers.{applied, tooMuch, nobodyPays, noPart, callingPart, calledPart, durationPart}
 use Rattle.rows.specs.Read.{bit, absent, flagsOf}
 use Rattle.meters.specs.Meters.{changeOf}
 use Rattle.meters.specs.declared.Metered.{Metered}
@@ -12,7 +12,6 @@ use Rattle.meters.specs.declared.Meters.{Meters}
 use Rattle.meters.specs.declared.Payer.{Payer}
 use Rattle.meters.specs.declared.Payer.the-variants.{Nobody, Caller, Called, Far}
 use Rattle.rows.specs.declared.Act.{Act}
-use Rattle.rows.specs.declared.Action.{Action}
 use Rattle.rows.specs.declared.Call.{Call}
 use Rattle.rows.specs.declared.Component.{Component}
 use Rattle.rows.specs.declared.Component.the-variants.{Absent}
@@ -34,7 +33,7 @@ use Rattle.rows.specs.declared.Role.the-variants.{Originating, Destinati
 use Rattle.rows.specs.declared.Side.{Side}
 use Rattle.rows.specs.declared.Stand.{Stand}
 
--- ---- The message sent
+-- ---- What the actions carry
 
 abbrev pub ifThere : Bool → Number → Number
 ifThere true n = n
@@ -45,9 +44,10 @@ secondsIf true s = s
 secondsIf false s = 0
 
 -- only the own number is ever sent; the Duration is the caller's meter
-abbrev pub noteOf : ℕ → Component → ℕ → Number → ℕ → Note
-noteOf u x p own caller =
+abbrev pub noteOf : ℕ → ℕ → Component → ℕ → Number → ℕ → Note
+noteOf e u x p own caller =
     record {
+      error = e;
       cause = u;
       component = x;
       parts = p;
@@ -56,40 +56,47 @@ noteOf u x p own caller =
       duration = secondsIf (bit durationPart p) caller;
     }
 
--- a refusal sends nothing
+-- a refusal has no actions, and they carry nothing
 abbrev pub noNote : Note
-noNote = record { cause = 0; component = Absent 0; parts = noPart; calling = absent; called = absent; duration = 0 }
+noNote = record { error = 0; cause = 0; component = Absent 0; parts = noPart; calling = absent; called = absent; duration = 0 }
 
 -- ---- The actions
 
 -- "A change from a payer charged at this exchange gives STOP": the caller or the called user; far is charged at the other one
-abbrev pub stoppingOf : Payer → Payer → Action
-stoppingOf Nobody q = Action.Nothing
-stoppingOf Caller Nobody = Action.Stop
-stoppingOf Caller Caller = Action.Nothing
-stoppingOf Caller Called = Action.Stop
-stoppingOf Caller Far = Action.Stop
-stoppingOf Called Nobody = Action.Stop
-stoppingOf Called Caller = Action.Stop
-stoppingOf Called Called = Action.Nothing
-stoppingOf Called Far = Action.Stop
-stoppingOf Far q = Action.Nothing
+abbrev pub stoppingOf : Payer → Payer → Act
+stoppingOf Nobody q = Act.Nothing
+stoppingOf Caller Nobody = Act.Stop
+stoppingOf Caller Caller = Act.Nothing
+stoppingOf Caller Called = Act.Stop
+stoppingOf Caller Far = Act.Stop
+stoppingOf Called Nobody = Act.Stop
+stoppingOf Called Caller = Act.Stop
+stoppingOf Called Called = Act.Nothing
+stoppingOf Called Far = Act.Stop
+stoppingOf Far q = Act.Nothing
 
--- by the plan's cause and error; a message is sent by its kind
-abbrev pub actionOf : Act → ℕ → ℕ → Action → Action
-actionOf Act.Nothing u e stop = Action.Nothing
-actionOf Act.NotifyAccepted u e stop = Action.NotifyAccepted
-actionOf Act.AccessSetup u e stop = Action.AccessSetup
-actionOf Act.AccessAsk u e stop = Action.AccessAsk
-actionOf Act.AccessError u e stop = Action.AccessError e
-actionOf Act.AccessRel u e stop = Action.AccessRel u
-actionOf Act.ChargeCalling u e stop = Action.ChargeCalling
-actionOf Act.ChargeCalled u e stop = Action.ChargeCalled
-actionOf Act.Stop u e stop = stop
-actionOf Act.SendIam u e stop = Action.Send iam
-actionOf Act.SendAnm u e stop = Action.Send anm
-actionOf Act.SendRel u e stop = Action.Send rel
-actionOf Act.SendFac u e stop = Action.Send fac
+abbrev pub isStop : Act → Bool
+isStop Act.Nothing = false
+isStop Act.NotifyAccepted = false
+isStop Act.AccessSetup = false
+isStop Act.AccessAsk = false
+isStop Act.AccessError = false
+isStop Act.AccessRel = false
+isStop Act.ChargeCalling = false
+isStop Act.ChargeCalled = false
+isStop Act.Stop = true
+isStop Act.SendIam = false
+isStop Act.SendAnm = false
+isStop Act.SendRel = false
+isStop Act.SendFac = false
+
+abbrev pub ifStop : Bool → Act → Act → Act
+ifStop true stop act = stop
+ifStop false stop act = act
+
+-- an action of a plan, as it is given
+abbrev pub givenAs : Act → Act → Act
+givenAs act stop = ifStop (isStop act) stop act
 
 -- ---- Where the call stands next: phase, REV state; pending, transfer agreed and the rest of the call asked for
 
@@ -142,18 +149,18 @@ sideOf CallingNumber s r = withNumbers s (orHeld (leb 1 (r .calling .count)) (r 
 
 -- a refusal: its number, no actions and the call as it stood
 abbrev pub refusedOf : ℕ → Call → Outcome
-refusedOf n c = record { number = n; call = c; note = noNote; first = Action.Nothing; second = Action.Nothing; third = Action.Nothing; fourth = Action.Nothing }
+refusedOf n c = record { number = n; call = c; note = noNote; first = Act.Nothing; second = Act.Nothing; third = Act.Nothing; fourth = Act.Nothing }
 
-abbrev pub givenOf : Plan → Call → Note → Action → Outcome
+abbrev pub givenOf : Plan → Call → Note → Act → Outcome
 givenOf p c m stop =
     record {
       number = applied;
       call = c;
       note = m;
-      first = actionOf (p .first) (p .cause) (p .error) stop;
-      second = actionOf (p .second) (p .cause) (p .error) stop;
-      third = actionOf (p .third) (p .cause) (p .error) stop;
-      fourth = actionOf (p .fourth) (p .cause) (p .error) stop;
+      first = givenAs (p .first) stop;
+      second = givenAs (p .second) stop;
+      third = givenAs (p .third) stop;
+      fourth = givenAs (p .fourth) stop;
     }
 
 -- the row applied, with the meters that follow; the Duration sent is the caller's meter as it stood before
@@ -161,7 +168,7 @@ abbrev pub followsOf : Call → Plan → Reading → Meters → Outcome
 followsOf c p r after =
     givenOf p
     (record { side = sideOf (p .register) (c .side) r; stand = standOf (p .next) (c .stand); meters = after })
-    (noteOf (p .cause) (p .component) (p .parts) (c .side .own) (c .meters .caller))
+    (noteOf (p .error) (p .cause) (p .component) (p .parts) (c .side .own) (c .meters .caller))
     (stoppingOf (c .meters .payer) (after .payer))
 
 -- 10 and 2 are the meters' own refusals

@@ -3,14 +3,14 @@
 use Prim.Native.Nat.{ℕ}
 use mathlib.Core.Bool.{Bool, true, false}
 use Rattle.rows.specs.Find.{rowForOf}
-use Rattle.rows.specs.Numbers.{badField, notACall}
+use Rattle.rows.specs.Numbers.{badField, notACall, iam, anm, rel, fac}
 use Rattle.rows.specs.Perform.{at, refusedOf, performOf}
 use Rattle.rows.specs.Read.{absent, flagsOf, readOf, cueOf, termsOf}
 use Rattle.rows.specs.Rows.{planOf}
 use Rattle.rows.specs.Valid.{validOf, eventOk}
 use Rattle.meters.specs.Meters.{newOf}
 use mathlib.Core.List.{List, [], _∷_}
-use Rattle.rows.specs.declared.Action.{Action}
+use Rattle.rows.specs.declared.Act.{Act}
 use Rattle.rows.specs.declared.Call.{Call}
 use Rattle.rows.specs.declared.Event.{Event}
 use Rattle.rows.specs.declared.Message.{Message}
@@ -51,27 +51,30 @@ ifCall false c e = refusedOf notACall c
 abbrev pub stepOf : Call → Event → Outcome
 stepOf c e = ifCall (validOf c) c e
 
--- What goes out: an action of this exchange, or a message with what it carries.
+-- What goes out: something that this exchange does, with its number if it has one, or a message.
 pub data Deed : Type 0 where
-  does : Action → Deed
+  does : Act → Deed
+  tells : Act → ℕ → Deed
   sends : Message → Deed
 
-abbrev pub messageOf : ℕ → Note → Message
-messageOf k m =
-    record { kind = k; cause = m .cause; component = m .component; parts = m .parts; calling = m .calling; called = m .called; duration = m .duration }
+abbrev pub messageOf : ℕ → ℕ → Note → Message
+messageOf k u m = record { kind = k; cause = u; component = m .component; parts = m .parts; calling = m .calling; called = m .called; duration = m .duration }
 
--- where an action is Nothing there is none
-abbrev pub andThen : Note → Action → List Deed → List Deed
-andThen m Action.Nothing rest = rest
-andThen m Action.NotifyAccepted rest = does Action.NotifyAccepted ∷ rest
-andThen m Action.AccessSetup rest = does Action.AccessSetup ∷ rest
-andThen m Action.AccessAsk rest = does Action.AccessAsk ∷ rest
-andThen m (Action.AccessError n) rest = does (Action.AccessError n) ∷ rest
-andThen m (Action.AccessRel n) rest = does (Action.AccessRel n) ∷ rest
-andThen m Action.ChargeCalling rest = does Action.ChargeCalling ∷ rest
-andThen m Action.ChargeCalled rest = does Action.ChargeCalled ∷ rest
-andThen m Action.Stop rest = does Action.Stop ∷ rest
-andThen m (Action.Send k) rest = sends (messageOf k m) ∷ rest
+-- where an action is Nothing there is none; only REL has a cause
+abbrev pub andThen : Note → Act → List Deed → List Deed
+andThen m Act.Nothing rest = rest
+andThen m Act.NotifyAccepted rest = does Act.NotifyAccepted ∷ rest
+andThen m Act.AccessSetup rest = does Act.AccessSetup ∷ rest
+andThen m Act.AccessAsk rest = does Act.AccessAsk ∷ rest
+andThen m Act.AccessError rest = tells Act.AccessError (m .error) ∷ rest
+andThen m Act.AccessRel rest = tells Act.AccessRel (m .cause) ∷ rest
+andThen m Act.ChargeCalling rest = does Act.ChargeCalling ∷ rest
+andThen m Act.ChargeCalled rest = does Act.ChargeCalled ∷ rest
+andThen m Act.Stop rest = does Act.Stop ∷ rest
+andThen m Act.SendIam rest = sends (messageOf iam 0 m) ∷ rest
+andThen m Act.SendAnm rest = sends (messageOf anm 0 m) ∷ rest
+andThen m Act.SendRel rest = sends (messageOf rel (m .cause) m) ∷ rest
+andThen m Act.SendFac rest = sends (messageOf fac 0 m) ∷ rest
 
 -- what an answer does, in order
 abbrev pub deedsOf : Outcome → List Deed

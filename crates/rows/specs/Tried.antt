@@ -8,8 +8,8 @@ use Rattle.meters.specs.declared.Payer.{Payer}
 use Rattle.rows.specs.Numbers.{iam, anm, rel, fac, callingReqSetup, calledRequest, notAvailable, alreadyRunning, normalClearing, facilityRejected, noPart, transferPart, partialPart, callingPart, calledPart, durationPart, agreedParts}
 use Rattle.rows.specs.Perform.{at}
 use Rattle.rows.specs.Read.{absent, flagsOf}
-use Rattle.rows.specs.Step.{unopenedCall, stepOf, Deed, does, sends, deedsOf}
-use Rattle.rows.specs.declared.Action.the-variants.{NotifyAccepted, AccessError, AccessRel, ChargeCalling, ChargeCalled, Stop}
+use Rattle.rows.specs.Step.{unopenedCall, stepOf, Deed, does, tells, sends, deedsOf}
+use Rattle.rows.specs.declared.Act.the-variants.{NotifyAccepted, AccessError, AccessRel, ChargeCalling, ChargeCalled, Stop}
 use Rattle.rows.specs.declared.Call.{Call}
 use Rattle.rows.specs.declared.Component.{Component}
 use Rattle.rows.specs.declared.Component.the-variants.{Absent, Invoke, Result}
@@ -63,7 +63,7 @@ case-l : run unopenedCall
     ∷ line 0 Setup WaitSetup 0 0 0 []
     ∷ line 0 Answered Active 0 0 0 (does NotifyAccepted ∷ does ChargeCalled ∷ [])
     ∷ line 0 Answered Active 0 60 0 []
-    ∷ line 0 Answered Active 0 60 0 (does (AccessError alreadyRunning) ∷ [])
+    ∷ line 0 Answered Active 0 60 0 (tells AccessError alreadyRunning ∷ [])
     ∷ line 0 Cleared Idle 0 60 0 (does Stop ∷ sends (plain rel normalClearing (Absent 0)) ∷ [])
     ∷ []
 case-l = refl
@@ -72,7 +72,7 @@ case-l = refl
 answered-without-word : run unopenedCall (Opening 0 8 room ∷ Ask 1 room ∷ Received (plain anm 0 (Absent 0)) ∷ [])
     ≡ line 0 Null Idle 0 0 0 []
     ∷ line 0 Setup WaitSetup 0 0 0 (sends (plain iam 0 (Invoke callingReqSetup)) ∷ [])
-    ∷ line 0 Cleared Idle 0 0 0 (does (AccessError notAvailable) ∷ does (AccessRel facilityRejected) ∷ sends (plain rel facilityRejected (Absent 0)) ∷ [])
+    ∷ line 0 Cleared Idle 0 0 0 (tells AccessError notAvailable ∷ tells AccessRel facilityRejected ∷ sends (plain rel facilityRejected (Absent 0)) ∷ [])
     ∷ []
 answered-without-word = refl
 

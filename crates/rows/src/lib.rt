@@ -69,8 +69,10 @@ pub struct Message {
     pub duration: u32,
 }
 
-// What a message that is sent carries: as of a message, without its kind.
+// What the actions of an answer carry: the error told to the own access; the cause of a release, there or in a REL; and, as of a
+// message, the rest. No row sends two messages, tells two errors or gives two causes: one note serves.
 pub struct Note {
+    pub error: u8,
     pub cause: u8,
     pub component: Component,
     pub parts: u8,
@@ -325,7 +327,7 @@ pub enum Register {
     CallingNumber,
 }
 
-// An action of a plan. Stop: only if a payer charged at this exchange changes.
+// An action. In a plan, Stop is given only if a payer charged at this exchange changes.
 pub enum Act {
     Nothing,
     NotifyAccepted,
@@ -374,28 +376,14 @@ pub struct Call {
     pub meters: Meters,
 }
 
-pub enum Action {
-    Nothing,
-    NotifyAccepted,
-    AccessSetup,
-    AccessAsk,
-    AccessError(u8),
-    AccessRel(u8),
-    ChargeCalling,
-    ChargeCalled,
-    Stop,
-    // a message of this kind, which carries the answer's note
-    Send(u8),
-}
-
-// The answer to an event. The actions stand in order; Nothing among them is none, and a host skips it.
-// A refusal has the call as it stood and no action. No row sends two messages: one note serves.
+// The answer to an event. The actions stand in order, and the note has what they carry; Nothing among them is none, and a host
+// skips it. A refusal has the call as it stood and no action.
 pub struct Outcome {
     pub number: u8,
     pub call: Call,
     pub note: Note,
-    pub first: Action,
-    pub second: Action,
-    pub third: Action,
-    pub fourth: Action,
+    pub first: Act,
+    pub second: Act,
+    pub third: Act,
+    pub fourth: Act,
 }

@@ -1,10 +1,9 @@
 // PERFORM: a plan carried out, once. Only here is a call touched: its side by what is registered, its stand by where it goes
 // next, its meters by their change.
 ghost use mathlib.Core.Path.{_≡_};
-ghost use Rattle.rows.specs.Perform.{ifThere, secondsIf, noteOf, stoppingOf, actionOf, standOf, roleBy, orHeld, openedOf, withNumbers, sideOf, refusedOf, givenOf, followsOf, doesOf, appliesOf, performOf};
+ghost use Rattle.rows.specs.Perform.{ifThere, secondsIf, noteOf, stoppingOf, isStop, givenAs, standOf, roleBy, orHeld, openedOf, withNumbers, sideOf, refusedOf, givenOf, followsOf, doesOf, appliesOf, performOf};
 use crate::ABSENT;
 use crate::Act;
-use crate::Action;
 use crate::Call;
 use crate::Component;
 use crate::Next;
@@ -19,20 +18,17 @@ use crate::RevState;
 use crate::Role;
 use crate::Side;
 use crate::Stand;
-use crate::numbers::ANM;
 use crate::numbers::APPLIED;
-use crate::numbers::FAC;
-use crate::numbers::IAM;
 use crate::numbers::NOBODY_PAYS;
-use crate::numbers::REL;
 use crate::numbers::TOO_MUCH;
 use crate::read;
 use meters::Metered;
 use meters::Meters;
 use meters::Payer;
 
-// A refusal sends nothing.
+// A refusal has no actions, and they carry nothing.
 const NO_NOTE: Note = Note {
+    error: 0,
     cause: 0,
     component: Component::Absent(0),
     parts: 0,
@@ -47,14 +43,15 @@ fn if_there(there: bool, n: Number) -> Number
     if there { n } else { ABSENT }
 }
 
-// What the message of a plan carries. Only the own number is ever sent; the Duration is the caller's meter.
-fn note_of(cause: u8, component: Component, parts: u8, own: Number, caller: u32) -> Note
-    ensures { λ out. ⌜ out ≡ noteOf cause component parts own caller ⌝ }
+// What the actions of a plan carry. Only the own number is ever sent; the Duration is the caller's meter.
+fn note_of(error: u8, cause: u8, component: Component, parts: u8, own: Number, caller: u32) -> Note
+    ensures { λ out. ⌜ out ≡ noteOf error cause component parts own caller ⌝ }
 {
     let calling = if_there((parts / 16) % 2 == 1, own);
     let called = if_there((parts / 32) % 2 == 1, own);
     let duration = seconds_if((parts / 64) % 2 == 1, caller);
     Note {
+        error: error,
         cause: cause,
         component: component,
         parts: parts,
@@ -71,45 +68,52 @@ fn seconds_if(there: bool, seconds: u32) -> u32
 }
 
 // STOP: a payer charged at this exchange (the caller, or the called user) changes.
-fn stopping(before: Payer, after: Payer) -> Action
+fn stopping(before: Payer, after: Payer) -> Act
     ensures { λ out. ⌜ out ≡ stoppingOf before after ⌝ }
 {
     match before {
-        Payer::Nobody => Action::Nothing,
+        Payer::Nobody => Act::Nothing,
         Payer::Caller => match after {
-            Payer::Nobody => Action::Stop,
-            Payer::Caller => Action::Nothing,
-            Payer::Called => Action::Stop,
-            Payer::Far => Action::Stop,
+            Payer::Nobody => Act::Stop,
+            Payer::Caller => Act::Nothing,
+            Payer::Called => Act::Stop,
+            Payer::Far => Act::Stop,
         },
         Payer::Called => match after {
-            Payer::Nobody => Action::Stop,
-            Payer::Caller => Action::Stop,
-            Payer::Called => Action::Nothing,
-            Payer::Far => Action::Stop,
+            Payer::Nobody => Act::Stop,
+            Payer::Caller => Act::Stop,
+            Payer::Called => Act::Nothing,
+            Payer::Far => Act::Stop,
         },
-        Payer::Far => Action::Nothing,
+        Payer::Far => Act::Nothing,
     }
 }
 
-fn action_of(act: Act, cause: u8, error: u8, stop: Action) -> Action
-    ensures { λ out. ⌜ out ≡ actionOf act cause error stop ⌝ }
+fn is_stop(act: Act) -> bool
+    ensures { λ out. ⌜ out ≡ isStop act ⌝ }
 {
     match act {
-        Act::Nothing => Action::Nothing,
-        Act::NotifyAccepted => Action::NotifyAccepted,
-        Act::AccessSetup => Action::AccessSetup,
-        Act::AccessAsk => Action::AccessAsk,
-        Act::AccessError => Action::AccessError(error),
-        Act::AccessRel => Action::AccessRel(cause),
-        Act::ChargeCalling => Action::ChargeCalling,
-        Act::ChargeCalled => Action::ChargeCalled,
-        Act::Stop => stop,
-        Act::SendIam => Action::Send(IAM),
-        Act::SendAnm => Action::Send(ANM),
-        Act::SendRel => Action::Send(REL),
-        Act::SendFac => Action::Send(FAC),
+        Act::Nothing => false,
+        Act::NotifyAccepted => false,
+        Act::AccessSetup => false,
+        Act::AccessAsk => false,
+        Act::AccessError => false,
+        Act::AccessRel => false,
+        Act::ChargeCalling => false,
+        Act::ChargeCalled => false,
+        Act::Stop => true,
+        Act::SendIam => false,
+        Act::SendAnm => false,
+        Act::SendRel => false,
+        Act::SendFac => false,
     }
+}
+
+// An action of a plan, as it is given.
+fn given_as(act: Act, stop: Act) -> Act
+    ensures { λ out. ⌜ out ≡ givenAs act stop ⌝ }
+{
+    if is_stop(act) { stop } else { act }
 }
 
 fn at(phase: Phase, rev: RevState, agreed: bool, rest: bool) -> Stand
@@ -239,10 +243,10 @@ impl Call {
             number: number,
             call: self,
             note: NO_NOTE,
-            first: Action::Nothing,
-            second: Action::Nothing,
-            third: Action::Nothing,
-            fourth: Action::Nothing,
+            first: Act::Nothing,
+            second: Act::Nothing,
+            third: Act::Nothing,
+            fourth: Act::Nothing,
         }
     }
 
@@ -261,7 +265,7 @@ impl Call {
         let then = after.payer;
         let newside = side_of(register, side, r);
         let newstand = stand_of(next, stand);
-        let note = note_of(p.cause, component, p.parts, own, before.caller);
+        let note = note_of(p.error, p.cause, component, p.parts, own, before.caller);
         let stop = stopping(payer, then);
         p.given(
             Call {
@@ -301,17 +305,17 @@ impl Call {
 
 impl Plan {
     // The plan's actions, in order.
-    fn given(self, call: Call, note: Note, stop: Action) -> Outcome
+    fn given(self, call: Call, note: Note, stop: Act) -> Outcome
         ensures { λ out. ⌜ out ≡ givenOf self call note stop ⌝ }
     {
         let a = self.first;
         let b = self.second;
         let d = self.third;
         let f = self.fourth;
-        let first = action_of(a, self.cause, self.error, stop);
-        let second = action_of(b, self.cause, self.error, stop);
-        let third = action_of(d, self.cause, self.error, stop);
-        let fourth = action_of(f, self.cause, self.error, stop);
+        let first = given_as(a, stop);
+        let second = given_as(b, stop);
+        let third = given_as(d, stop);
+        let fourth = given_as(f, stop);
         Outcome {
             number: APPLIED,
             call: call,

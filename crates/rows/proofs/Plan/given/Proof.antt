@@ -7,4 +7,4 @@ given-spec =
     tie.close
     (tie.spec
     (λ c. λ κs. search needs) (λ c. λ κs. search needs) (λ c. λ κs. search needs) (λ c. λ κs. search needs)
-    (λ c. simp (c .action-of4 .ensures, c .before .action-of3 .ensures, c .before .before .action-of2 .ensures, c .before .before .before .action-of .ensures)))
+    (λ c. simp (c .given-as4 .ensures, c .before .given-as3 .ensures, c .before .before .given-as2 .ensures, c .before .before .before .given-as .ensures)))

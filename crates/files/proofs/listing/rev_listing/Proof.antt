@@ -3,8 +3,8 @@ use borrow.Author.Needs.{needs}
 use Rattle.text.proofs.Cases.{cases}
 use Rattle.files.specs.Fit.{answers, leaves}
 use Rattle.files.proofs.Fits.{full-as, fit-as}
-use Rattle.files.proofs.fit.fitted.Statement.{statement}
-use Rattle.files.proofs.fit.fitted.Tie as tie
+use Rattle.files.proofs.listing.rev_listing.Statement.{statement}
+use Rattle.files.proofs.listing.rev_listing.Tie as tie
 
 returns : tie.Need-returns
 unfolding answers leaves
@@ -13,16 +13,16 @@ returns c = search cases
 returns-2 : tie.Need-returns-2
 returns-2 c =
     let w = c .before .before .before in
-    full-as _ _ _ _ (omega arith) (w .write .ensures .place) (w .write .last .1 .1 .0) (omega arith) (w .write .kept .1 .1 .0)
+    full-as _ _ _ _ (omega arith) (w .write .ensures .place) (w .write .last .1 .0) (omega arith) (w .write .kept .1 .0)
 
 returns-3 : tie.Need-returns-3
 returns-3 c =
     let v = c .before .before in
     let w = v .before .before .before .before .before in
-    fit-as _ _ _ _ (omega arith) (w .write .ensures .place) (w .write .last .1 .1 .0) _ _ (omega arith) (w .write .kept .1 .1 .0) (v .write2 .ensures)
+    fit-as _ _ _ _ (omega arith) (w .write .ensures .place) (w .write .last .1 .0) _ _ (omega arith) (w .write .kept .1 .0) (v .write2 .ensures)
 
-pub fitted-spec : {M : Type 1} → statement M
-fitted-spec =
+pub rev-listing-spec : {M : Type 1} → statement M
+rev-listing-spec =
     tie.close
     (tie.spec
     returns (λ c. search needs) (λ c. search needs) (λ c. λ κs. search needs) (λ c. search needs) returns-2

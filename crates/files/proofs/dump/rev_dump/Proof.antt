@@ -1,0 +1,29 @@
+use native.Mathlib.Omega.{arith}
+use borrow.Author.Needs.{needs}
+use Rattle.text.proofs.Cases.{cases}
+use Rattle.files.specs.Fit.{answers, leaves}
+use Rattle.files.proofs.Fits.{full-as, fit-as}
+use Rattle.files.proofs.dump.rev_dump.Statement.{statement}
+use Rattle.files.proofs.dump.rev_dump.Tie as tie
+
+returns : tie.Need-returns
+unfolding answers leaves
+returns c = search cases
+
+returns-2 : tie.Need-returns-2
+returns-2 c =
+    let w = c .before .before .before in
+    full-as _ _ _ _ (omega arith) (w .write .ensures .place) (w .write .last .1 .0) (omega arith) (w .write .kept .1 .0)
+
+returns-3 : tie.Need-returns-3
+returns-3 c =
+    let v = c .before .before in
+    let w = v .before .before .before .before .before in
+    fit-as _ _ _ _ (omega arith) (w .write .ensures .place) (w .write .last .1 .0) _ _ (omega arith) (w .write .kept .1 .0) (v .write2 .ensures)
+
+pub rev-dump-spec : {M : Type 1} → statement M
+rev-dump-spec =
+    tie.close
+    (tie.spec
+    returns (λ c. search needs) (λ c. search needs) (λ c. λ κs. search needs) (λ c. search needs) returns-2
+    (λ c. λ κs. search needs) (λ c. search needs) returns-3)
