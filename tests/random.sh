@@ -1,6 +1,6 @@
 #!/bin/sh
 # random.sh [COUNT [SEED]]: generated event files, damaged ones among them, listed by the proved library and by the independent
-# model in host/reference, and compared byte for byte. Needs a C compiler and cargo.
+# model in host/reference, and compared byte for byte; before that the model's own tests. Needs a C compiler and cargo.
 set -eu
 cd "$(dirname "$0")/.."
 for tool in cc cargo; do
@@ -10,6 +10,11 @@ for tool in cc cargo; do
     fi
 done
 sh host/c/build
+cargo test --quiet --offline --manifest-path host/reference/Cargo.toml --target-dir target/reference >target/host/model.log 2>&1 || {
+    cat target/host/model.log
+    exit 1
+}
+echo "random: the model passes its own tests"
 cargo build --quiet --release --offline --manifest-path host/reference/Cargo.toml --target-dir target/reference
 cat >target/host/serve <<'SERVE'
 #!/bin/sh
