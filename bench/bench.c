@@ -2,21 +2,22 @@
  * Listings of the same inputs, timed in one process: the proved one (rev_listing), the plain one (plain_listing) and
  * that of the independent model (reference_listing).
  *
- *   bench [--exact]                a table: nanoseconds for one call of each, and ratios to the plain one
- *   bench [--exact] --once WHICH KIND SIZE [CALLS]
+ *   bench [--roomy]                a table: nanoseconds for one call of each, and ratios to the plain one
+ *   bench [--roomy] --once WHICH KIND SIZE [CALLS]
  *                                  no table, but CALLS calls (1 if it is not said, and 0 is none): WHICH rev or plain,
  *                                  KIND call, messages or expiries, SIZE in KiB (1 to 64)
  *
- * Buffers have 4 MiB, which is more than any listing takes, or under --exact exactly the listing's length, which a call
- * of the plain listing gives first. --once is for tools that count instructions: all that a run does more than one
- * with fewer calls is those calls.
+ * Buffers have exactly the listing's length, which a call of the plain listing gives first, so that all have to measure the
+ * whole file before they write; or under --roomy 4 MiB, which is more than any listing takes, so that the plain listing
+ * need not measure. --once is for tools that count instructions: a run differs from one with fewer calls by those calls
+ * alone.
  *
  * The plain listing is always in this program; the proved one unless it is built with WITHOUT_REV, the reference if it
  * is built with WITH_REFERENCE. Where the proved one runs under an emulator, and the reference cannot, two programs
  * share the work:
  *
- *   bench [--exact] --figures      the native one: a line for each row, with the nanoseconds of reference and plain
- *   bench [--exact] --emulated     the emulated one: the table, with those figures read from standard input
+ *   bench [--roomy] --figures      the native one: a line for each row, with the nanoseconds of reference and plain
+ *   bench [--roomy] --emulated     the emulated one: the table, with those figures read from standard input
  *
  * The inputs are built here and are the same in every run:
  *
@@ -236,11 +237,11 @@ static void time_all(size_t file_len, size_t room, double best[LISTINGS])
 
 enum output { TABLE, EMULATED_TABLE, FIGURES };
 
-static void print_head(int exact, enum output output)
+static void print_head(int roomy, enum output output)
 {
     printf("Nanoseconds of processor time for one call, the best of %d runs of at least %d us, in turn.\n"
            "Buffers of %s, written before and not cleared between calls.\n\n",
-           RUNS, RUN_TIME / 1000, exact ? "exactly the listing's length" : "4 MiB");
+           RUNS, RUN_TIME / 1000, roomy ? "4 MiB" : "exactly the listing's length");
     if (output == EMULATED_TABLE)
         printf("%-36s %36s  %36s\n", "", "----------- emulated -----------", "------------ native ------------");
     printf("%-9s %11s %14s %12s %12s %10s", "input", "file bytes", "listing bytes", "rev ns", "plain ns", "rev/plain");
@@ -273,14 +274,14 @@ static int print_row(const char *name, size_t file_len, size_t length, const dou
     return 1;
 }
 
-static int table(int exact, enum output output)
+static int table(int roomy, enum output output)
 {
     if (listings[output == FIGURES ? REFERENCE : REV] == NULL) {
         fputs("bench: it was built without the listing that this takes\n", stderr);
         return 1;
     }
     if (output != FIGURES)
-        print_head(exact, output);
+        print_head(roomy, output);
     for (int k = 0; k < KINDS; k++) {
         for (int s = 0; s < SIZES; s++) {
             size_t file_len = build(&kinds[k], sizes[s]);
@@ -291,7 +292,7 @@ static int table(int exact, enum output output)
                 fprintf(stderr, "bench: the listings of %s, %zu bytes, differ\n", kinds[k].name, file_len);
                 return 1;
             }
-            time_all(file_len, exact ? length : ROOM, ns);
+            time_all(file_len, roomy ? ROOM : length, ns);
             if (!print_row(kinds[k].name, file_len, length, ns, output)) {
                 fputs("\nbench: the native figures are not on standard input\n", stderr);
                 return 1;
@@ -312,7 +313,7 @@ static int read_number(const char *text, unsigned long most, unsigned long *numb
     return *text >= '0' && *text <= '9' && *end == '\0' && *number <= most;
 }
 
-static int once(int exact, const char *which, const char *kind_name, const char *size_text, const char *calls_text)
+static int once(int roomy, const char *which, const char *kind_name, const char *size_text, const char *calls_text)
 {
     enum which chosen = strcmp(which, "rev") == 0 ? REV : PLAIN;
     unsigned long size, calls;
@@ -323,8 +324,8 @@ static int once(int exact, const char *which, const char *kind_name, const char 
     for (int k = 0; k < KINDS; k++) {
         if (strcmp(kinds[k].name, kind_name) == 0) {
             size_t file_len = build(&kinds[k], size * KIB);
-            size_t length = exact ? plain_listing(file, file_len, out, ROOM) : 0;
-            size_t room = exact ? length : ROOM;
+            size_t length = roomy ? 0 : plain_listing(file, file_len, out, ROOM);
+            size_t room = roomy ? ROOM : length;
 
             for (unsigned long i = 0; i < calls; i++)
                 length = listings[chosen](file, file_len, out, room);
@@ -337,22 +338,22 @@ static int once(int exact, const char *which, const char *kind_name, const char 
 
 int main(int count, char **words)
 {
-    int exact = count > 1 && strcmp(words[1], "--exact") == 0;
+    int roomy = count > 1 && strcmp(words[1], "--roomy") == 0;
     int status = 2;
 
-    count -= exact;
-    words += exact;
+    count -= roomy;
+    words += roomy;
     if (count == 1)
-        status = table(exact, TABLE);
+        status = table(roomy, TABLE);
     else if (count == 2 && strcmp(words[1], "--emulated") == 0)
-        status = table(exact, EMULATED_TABLE);
+        status = table(roomy, EMULATED_TABLE);
     else if (count == 2 && strcmp(words[1], "--figures") == 0)
-        status = table(exact, FIGURES);
+        status = table(roomy, FIGURES);
     else if ((count == 5 || count == 6) && strcmp(words[1], "--once") == 0)
-        status = once(exact, words[2], words[3], words[4], count == 6 ? words[5] : "1");
+        status = once(roomy, words[2], words[3], words[4], count == 6 ? words[5] : "1");
     if (status == 2)
-        fputs("usage: bench [--exact] [--once rev|plain call|messages|expiries 1..64 [CALLS]]\n"
-              "       bench [--exact] --figures | --emulated\n",
+        fputs("usage: bench [--roomy] [--once rev|plain call|messages|expiries 1..64 [CALLS]]\n"
+              "       bench [--roomy] --figures | --emulated\n",
               stderr);
     return status;
 }

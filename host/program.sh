@@ -24,8 +24,10 @@ run_program() {
         mkdir -p "$root/target" && (cd "$root" && rt check "$name" </dev/null) >"$root/target/$name.log" 2>&1 ||
             stop "it could not be built; target/$name.log says why"
     fi
-    [ "$(uname -m)" = x86_64 ] || command -v rt >/dev/null ||
-        stop "the program is x86-64, and the Rattle kit, whose emulator runs it here, is not on the path"
+    if [ "$(uname -m)" != x86_64 ]; then
+        command -v rt >/dev/null || stop "the program is x86-64, and the Rattle kit, whose emulator runs it here, is not on the path"
+        find_toolchain || stop "the kit has no emulator for this machine"
+    fi
     run_x86_64 "$program"
 }
 

@@ -9,8 +9,7 @@ use lib.ListN.{length, take, drop}
 use lib.Seq.{sets, sets-eq, length-take-le}
 use Rattle.text.specs.Text.{Put}
 use Rattle.text.proofs.Cases.{yes-lt, no-lt, both-lt}
-use Rattle.files.specs.Fit.{tooLong, answers, leaves}
-use Rattle.files.specs.Places.{longest}
+use Rattle.files.specs.Fit.{longest, tooLong, answers, leaves}
 
 -- a front of no bytes, put back, changes nothing
 pub no-front : (e out : List ℕ) → length e ≡ 0 → e ++ drop 0 out ≡ out

@@ -1,4 +1,4 @@
--- A dump of a file: "its ordinal, kind and place" for each record.
+-- A dump of a file: each record's ordinal, kind and place.
 -- Assumes nothing.
 use mathlib.Core.List.{List, [], _∷_, _++_}
 use Prim.Native.Nat.{ℕ, _+_}
@@ -30,6 +30,7 @@ kindText Read.End = []
 kindText (Read.Stop n) = stopText n
 kindText (Read.Got e next) = eventText e
 
+-- a record's line: ordinal, kind, place
 unfoldable pub placeText : ℕ → Read → ℕ → List ℕ
 placeText ordinal found at = decimal ordinal ++ kindText found ++ numberedLine (ascii " ") at
 
@@ -38,6 +39,7 @@ unfoldable pub placesText : List ℕ → ℕ → List ℕ → List ℕ
 placesText s n [] = []
 placesText s n (at ∷ places) = placeText (n + 1) (readAt s at) at ++ placesText s (n + 1) places
 
+-- the count, then a line for each record
 unfoldable pub dumpOf : List ℕ → List ℕ
 dumpOf s = numberedLine (ascii "RECORDS ") (length (placesOf s)) ++ placesText s 0 (placesOf s)
 

@@ -4,7 +4,10 @@ use mathlib.Core.List.{List, _++_}
 use Prim.Native.Nat.{ℕ}
 use lib.ListN.{length, drop}
 use Rattle.text.specs.Choose.{ifLt}
-use Rattle.files.specs.Places.{longest}
+
+-- "A file has at most 65,536 bytes"
+abbrev pub longest : ℕ
+longest = 65536
 
 -- 8: "listing longer than its buffer, or file too long"
 abbrev pub tooLong : ℕ

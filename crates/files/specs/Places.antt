@@ -22,7 +22,3 @@ placesFrom (suc k) s at = ifLt at (length s) (at ∷ placesFrom k s (placeAfter 
 -- a record has a byte at least, so a file of n bytes has at most n
 unfoldable pub placesOf : List ℕ → List ℕ
 placesOf s = placesFrom (length s) s 0
-
--- 01: "A file has at most 65,536 bytes"
-abbrev pub longest : ℕ
-longest = 65536

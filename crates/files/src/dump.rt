@@ -4,8 +4,7 @@ ghost use Prim.Native.Nat.{_+_, _≤_, _<_, _^_};
 ghost use lib.ListN.{length};
 ghost use Rattle.text.specs.Text.{Put};
 ghost use Rattle.files.specs.Dump.{stopText, eventText, kindText, placeText, longestPlace, dumpOf};
-ghost use Rattle.files.specs.Fit.{answers, leaves};
-ghost use Rattle.files.specs.Places.{longest};
+ghost use Rattle.files.specs.Fit.{longest, answers, leaves};
 use crate::Read;
 use crate::lent::found_at;
 use crate::lines::put_numbered_line;
@@ -57,14 +56,15 @@ fn put_kind(out: &mut [u8], at: usize, found: Read) -> usize
     }
 }
 
+// A record's line.
 fn put_place(out: &mut [u8], to: usize, ordinal: u32, found: Read, at: u32) -> usize
     requires { ⌜ to < 2 ^ 58 ⌝ }
     ensures { λ r. ⌜ Put (now (out .entry)) to (placeText ordinal found at) (now (out .exit)) r ⌝ }
     ensures { λ r. ⌜ r ≤ to + longestPlace ⌝ }
 {
-    let kind = text::put_dec(out, to, ordinal);
-    let place = put_kind(out, kind, found);
-    put_numbered_line(out, place, b" ", at)
+    let mut end = text::put_dec(out, to, ordinal);
+    end = put_kind(out, end, found);
+    put_numbered_line(out, end, b" ", at)
 }
 
 // The whole dump as far as the buffer goes, and its length.

@@ -1,5 +1,5 @@
 // A reader that remembers the bytes it was lent and its place in them, for a host that takes one record at a time. It is thin:
-// each function takes it apart and calls a function on slice and number, and says its result by that function's definition.
+// each function takes it apart and calls a function on slice and number, and says its result by the same definitions.
 ghost use mathlib.Core.Path.{_≡_};
 ghost use Prim.Native.Nat.{_-_};
 ghost use lib.ListN.{length};
@@ -54,7 +54,8 @@ pub fn left<'a>(r: Reader<'a>) -> usize
     left_at(r.src, r.at)
 }
 
-// What a reader finds at a place of a slice. The contract says nothing of a reader, so its callers need no walk.
+// What a reader finds at a place of a slice. The contract says nothing of a reader, so its callers' proofs are of
+// the usual kind.
 pub fn found_at(file: &[u8], at: usize) -> Read
     ensures { λ f. ⌜ f ≡ readAt (now (file .entry)) at ⌝ }
 {

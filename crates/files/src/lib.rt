@@ -1,4 +1,4 @@
-// The event file of one call, and its listing.
+// The event file of one call: its listing, a dump of it, and a reader of its records.
 //
 //     bytes --frame--> kind --event--> Event --step--> Outcome --put--> text
 //
@@ -29,8 +29,8 @@ pub enum Frame {
     Body(u32, usize),
 }
 
-// What stands at a place of a file: nothing; a record at which reading stops, with the number given back, and the place
-// stays; or a record's event and the place after it.
+// What stands at a place of a file: nothing; a record that cannot be read, with its number (5, 6 or 7); or a record's event and the
+// place after it.
 pub enum Read {
     End,
     Stop(u8),

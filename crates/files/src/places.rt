@@ -21,7 +21,7 @@ pub fn place_after(found: Read, stay: usize) -> usize
     }
 }
 
-// How many records a file has: as many as its listing shows. It is read through a reader.
+// How many records a file has. One that cannot be read counts too, and is the last.
 pub fn count_records(file: &[u8]) -> usize
     ensures { λ r. ⌜ r ≡ length (placesOf (now (file .entry))) ⌝ }
 {

@@ -56,7 +56,7 @@ noteOf e u x p own caller =
       duration = secondsIf (bit durationPart p) caller;
     }
 
--- a refusal has no actions, and they carry nothing
+-- a refusal has no actions, so nothing is carried
 abbrev pub noNote : Note
 noNote = record { error = 0; cause = 0; component = Absent 0; parts = noPart; calling = absent; called = absent; duration = 0 }
 
@@ -94,7 +94,7 @@ abbrev pub ifStop : Bool → Act → Act → Act
 ifStop true stop act = stop
 ifStop false stop act = act
 
--- an action of a plan, as it is given
+-- Stop as the change of payer makes it; any other action as it stands
 abbrev pub givenAs : Act → Act → Act
 givenAs act stop = ifStop (isStop act) stop act
 

@@ -69,8 +69,8 @@ pub struct Message {
     pub duration: u32,
 }
 
-// What the actions of an answer carry: the error told to the own access; the cause of a release, there or in a REL; and, as of a
-// message, the rest. No row sends two messages, tells two errors or gives two causes: one note serves.
+// What the actions of an answer carry. error: told to the own access. cause: of a release, to the own access or in a REL. The rest is
+// the message's. No row sends two messages, tells two errors or gives two causes, so one note serves.
 pub struct Note {
     pub error: u8,
     pub cause: u8,

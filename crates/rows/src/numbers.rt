@@ -1,4 +1,5 @@
-// The numbers of the papers, each behind one name. specs/Numbers.antt has the same list.
+// The numbers of the papers, each behind one name. specs/Numbers.antt has the same numbers; here the module's errors are a mask, and
+// the parts stand added up as they are sent.
 
 // 01, numbers given back: a row applied, or why not.
 pub const APPLIED: u8 = 0;

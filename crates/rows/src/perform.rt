@@ -26,7 +26,7 @@ use meters::Metered;
 use meters::Meters;
 use meters::Payer;
 
-// A refusal has no actions, and they carry nothing.
+// A refusal has no actions, so nothing is carried.
 const NO_NOTE: Note = Note {
     error: 0,
     cause: 0,
@@ -109,7 +109,7 @@ fn is_stop(act: Act) -> bool
     }
 }
 
-// An action of a plan, as it is given.
+// Stop as the change of payer makes it; any other action as it stands.
 fn given_as(act: Act, stop: Act) -> Act
     ensures { λ out. ⌜ out ≡ givenAs act stop ⌝ }
 {

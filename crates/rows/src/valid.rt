@@ -11,6 +11,8 @@ use crate::RevState;
 use crate::Role;
 use crate::Side;
 use crate::numbers::DAY;
+use crate::numbers::FAC;
+use crate::numbers::IAM;
 use meters::Meters;
 use meters::Payer;
 
@@ -320,7 +322,7 @@ fn message_ok(m: Message) -> bool
     let d = number_if((m.parts / 16) % 2 == 1, calling);
     let f = number_if((m.parts / 32) % 2 == 1, called);
     let g = ((m.parts / 64) % 2 == 1) | (m.duration == 0);
-    ((1 <= m.kind) & (m.kind <= 5)) & ((m.cause <= 127) & (a & (b & (d & (f & g)))))
+    ((IAM <= m.kind) & (m.kind <= FAC)) & ((m.cause <= 127) & (a & (b & (d & (f & g)))))
 }
 
 fn access_ok(a: u8, n: u8) -> bool
