@@ -1,8 +1,22 @@
 #!/bin/sh
-# random.sh [COUNT [SEED]]: generated event files, damaged ones among them, listed by the proved library and by the independent
-# model in host/reference, and compared byte for byte; before that the model's own tests. Needs a C compiler and cargo.
+# random.sh [--count N] [--seed S]: generated event files (10,000 of seed 1 where it is not said), damaged ones among them, listed by the
+# proved library and by the independent model in host/reference, and compared byte for byte; before that the model's own tests. On a
+# terminal a line tells how far it is. Needs a C compiler and cargo.
 set -eu
 cd "$(dirname "$0")/.."
+count=10000 seed=1
+while [ $# -ge 2 ]; do
+    case $1 in
+    --count) count=$2 ;;
+    --seed) seed=$2 ;;
+    *) break ;;
+    esac
+    shift 2
+done
+if [ $# -ne 0 ]; then
+    echo "usage: random.sh [--count N] [--seed S]" >&2
+    exit 2
+fi
 for tool in cc cargo; do
     if ! command -v $tool >/dev/null; then
         echo "random: skipped, there is no $tool here"
@@ -22,7 +36,7 @@ cat >target/host/serve <<'SERVE'
 run_x86_64 target/host/batch
 SERVE
 status=0
-target/reference/release/reference differential --count "${1:-10000}" --seed "${2:-1}" --keep target/host/difference.rev -- \
+target/reference/release/reference differential --count "$count" --seed "$seed" --keep target/host/difference.rev -- \
     sh target/host/serve >target/host/random.log || status=$?
 if [ $status -eq 0 ]; then tail -n 1 target/host/random.log | sed 's/^/random: /'; else cat target/host/random.log; fi
 exit $status

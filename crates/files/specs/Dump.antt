@@ -8,13 +8,14 @@ use Rattle.text.specs.Text.{ascii, decimal}
 use Rattle.rows.specs.declared.Event.{Event}
 use Rattle.rows.specs.declared.Event.the-variants.{Opening, Ask, Received, FromAccess, Expiry, Time}
 use Rattle.files.specs.Bodies.{readAt}
+use Rattle.files.specs.Frames.{cutShort, badLength}
 use Rattle.files.specs.Lines.{numberedLine}
 use Rattle.files.specs.Places.{placesOf}
 use Rattle.files.specs.declared.Read.{Read}
 
--- why a record cannot be read: 5, 6 or 7
+-- why a record cannot be read: 5, 6 or else 7
 unfoldable pub stopText : ℕ → List ℕ
-stopText n = ifEq n 5 (ascii " CUT-SHORT") (ifEq n 6 (ascii " BAD-LENGTH") (ascii " UNKNOWN-KIND"))
+stopText n = ifEq n cutShort (ascii " CUT-SHORT") (ifEq n badLength (ascii " BAD-LENGTH") (ascii " UNKNOWN-KIND"))
 
 -- kinds 1 to 6
 abbrev pub eventText : Event → List ℕ

@@ -6,6 +6,7 @@ use Prim.Native.Nat.{ℕ}
 use Rattle.meters.specs.declared.Meters.{Meters}
 use Rattle.text.specs.Choose.{ifEq}
 use Rattle.text.specs.Text.{ascii, decimal, numbered}
+use Rattle.rows.specs.Numbers.{applied}
 use Rattle.rows.specs.declared.Act.{Act}
 use Rattle.rows.specs.declared.Call.{Call}
 use Rattle.rows.specs.declared.Note.{Note}
@@ -68,7 +69,7 @@ actionsText o = actionText (o .note) (o .first) ++ actionText (o .note) (o .seco
 
 -- a record's line and, where a row was applied, its actions
 unfoldable pub recordText : ℕ → Outcome → List ℕ
-recordText ordinal o = lineText ordinal (o .number) (o .call) ++ ifEq (o .number) 0 (actionsText o) []
+recordText ordinal o = lineText ordinal (o .number) (o .call) ++ ifEq (o .number) applied (actionsText o) []
 
 -- no record's text is longer
 abbrev pub longestRecord : ℕ

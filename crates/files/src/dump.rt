@@ -6,10 +6,12 @@ ghost use Rattle.text.specs.Text.{Put};
 ghost use Rattle.files.specs.Dump.{stopText, eventText, kindText, placeText, longestPlace, dumpOf};
 ghost use Rattle.files.specs.Fit.{longest, answers, leaves};
 use crate::Read;
+use crate::fit::LONGEST;
+use crate::fit::TOO_LONG;
+use crate::frames::BAD_LENGTH;
+use crate::frames::CUT_SHORT;
 use crate::lent::found_at;
 use crate::lines::put_numbered_line;
-use crate::places::LONGEST;
-use crate::places::TOO_LONG;
 use crate::places::count_records;
 use crate::places::place_after;
 use rows::Event;
@@ -19,10 +21,10 @@ fn put_stop(out: &mut [u8], at: usize, number: u8) -> usize
     ensures { λ r. ⌜ Put (now (out .entry)) at (stopText number) (now (out .exit)) r ⌝ }
     ensures { λ r. ⌜ r ≤ at + 13 ⌝ }
 {
-    if number == 5 {
+    if number == CUT_SHORT {
         return text::put_word(out, at, b" CUT-SHORT");
     }
-    if number == 6 {
+    if number == BAD_LENGTH {
         return text::put_word(out, at, b" BAD-LENGTH");
     }
     text::put_word(out, at, b" UNKNOWN-KIND")

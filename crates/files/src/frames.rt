@@ -8,9 +8,9 @@ use crate::bytes::le2;
 use crate::bytes::wide;
 
 // 01, numbers given back.
-const CUT_SHORT: u8 = 5;
+pub const CUT_SHORT: u8 = 5;
 
-const BAD_LENGTH: u8 = 6;
+pub const BAD_LENGTH: u8 = 6;
 
 const UNKNOWN_KIND: u8 = 7;
 

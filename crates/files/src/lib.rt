@@ -6,6 +6,7 @@
 mod bodies;
 mod bytes;
 mod dump;
+mod fit;
 mod frames;
 mod lent;
 mod lines;

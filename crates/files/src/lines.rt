@@ -6,6 +6,7 @@ ghost use Rattle.files.specs.Lines.{phaseText, revText, standText, meter
 use crate::messages::put_released;
 use crate::messages::put_sent;
 use meters::Meters;
+use rows::APPLIED;
 use rows::Act;
 use rows::Call;
 use rows::Note;
@@ -138,7 +139,7 @@ pub fn put_record(out: &mut [u8], at: usize, ordinal: u32, o: Outcome) -> usize
 {
     let call = o.call;
     let end = put_line(out, at, ordinal, o.number, call);
-    if o.number == 0 {
+    if o.number == APPLIED {
         return put_actions(out, end, o);
     }
     end

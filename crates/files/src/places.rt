@@ -5,11 +5,6 @@ ghost use Rattle.files.specs.Places.{placeAfter, placesOf};
 use crate::Read;
 use crate::lent::found_at;
 
-// 01: a file has at most this many bytes; the number given back for a longer one, or for a buffer too short.
-pub(crate) const LONGEST: usize = 65536;
-
-pub(crate) const TOO_LONG: usize = 8;
-
 // The place after what was found; where there is no record, or none that can be read, `stay`.
 pub fn place_after(found: Read, stay: usize) -> usize
     ensures { λ r. ⌜ r ≡ placeAfter found stay ⌝ }

@@ -1,8 +1,8 @@
 -- PLAN: what each row does. A line for each row of the papers, or for those that do the same, with their names in docs/ROWS.md
 -- and their sentences beside it (3.5.2.n: for each n from 1 to 5):
 -- where the call stands next, what happens to the meters, what is registered, the actions in order, the message's component
--- and parts, the error and the cause that they carry. Stop is given only if a payer charged at this exchange changes. What a row registers where its own sentence does
--- not say so (O1, O4, D19, D46) is decision 15 of docs/DECISIONS.md.
+-- and parts, the error and the cause that they carry. Stop is given only if a payer charged at this exchange changes. What a row
+-- registers where its own sentence does not say so (O1, O4, D19, D46) is decision 15 of docs/DECISIONS.md.
 -- Assumes nothing.
 use Prim.Native.Nat.{ℕ, _+_}
 use mathlib.Core.Bool.{Bool, true, false}

@@ -14,6 +14,7 @@ mod valid;
 
 use meters::Change;
 use meters::Meters;
+pub use numbers::APPLIED;
 
 pub enum Role {
     Originating,
