@@ -15,7 +15,7 @@ use Rattle.meters.specs.declared.Metered.the-variants.{Done, NoPayer, TooMuch}
 use Rattle.meters.specs.declared.Meters.{Meters}
 use Rattle.meters.specs.declared.Payer.{Payer}
 use Rattle.meters.specs.declared.Payer.the-variants.{Nobody, Caller, Called, Far}
-use Rattle.rows.specs.Bill.{pick, Step, accepted, isAnswered, secondsIn, counted, times, sum, answered, resultTo, invokeOf, Said, saying, silence, said, Case, caseB, caseC, caseD, Mark, plain, second, reversed, turns, inEffect, isRev, markBy, waitsBy, waits, marks, Took, nothing, took, reversal, turnedTo, covers, payer, payments, bill, allSeconds, same, owed}
+use Rattle.rows.specs.Bill.{pick, Step, accepted, isAnswered, secondsIn, counted, times, sum, answered, resultTo, invokeOf, Said, saying, silence, said, Case, caseB, caseC, caseD, Mark, plain, second, reversed, requested, turnsSetup, turnsAnswered, turns, inEffect, isRev, markBy, stillWaits, waitsBy, waits, marks, Took, nothing, took, reversal, turnedTo, covers, payer, payments, bill, allSeconds, same, owed}
 use Rattle.rows.specs.Find.{when, originatingNullOf, originatingSetupIdleOf, waitSetupOf, originatingWaitAnswerOf, originatingAnsweredIdleOf, waitActiveOf, activeOf}
 use Rattle.rows.specs.History.{run, written, history, opening}
 use Rattle.rows.specs.Perform.{refusedOf, followsOf, settledOf, performOf}
@@ -37,7 +37,7 @@ use Rattle.rows.specs.declared.Message.{Message}
 use Rattle.rows.specs.declared.Number.{Number}
 use Rattle.rows.specs.declared.Outcome.{Outcome}
 use Rattle.rows.specs.declared.Phase.{Phase}
-use Rattle.rows.specs.declared.Phase.the-variants.{Null, Setup, Answered, Cleared}
+use Rattle.rows.specs.declared.Phase.the-variants.{Unopened, Null, Setup, Answered, Cleared}
 use Rattle.rows.specs.declared.Plan.{Plan}
 use Rattle.rows.specs.declared.Reading.{Reading}
 use Rattle.rows.specs.declared.RevState.{RevState}
@@ -539,19 +539,46 @@ pick-still : (b : Bool) {x y : Mark} → Still x → Still y → Still (pick b x
 pick-still true p q = p
 pick-still false p q = q
 
-turns-still : (s : Said) {d : Mark} (rv : RevState) → Still d → Still (turns s d rv)
-turns-still s Idle i = pick-still (s .requests) (pick-still (s .partial) turning turning) still
-turns-still s WaitSetup i = pick-still (s .acceptsA) turning still
-turns-still s WaitActive i = pick-still (s .acceptsB) turning still
-turns-still s WaitAnswer i = i
-turns-still s Active i = still
-turns-still s WaitSetupConf i = still
-turns-still s WaitActiveConf i = still
-turns-still s WaitCalled i = still
+setup-still : (s : Said) {d : Mark} (rv : RevState) → Still d → Still (turnsSetup s d rv)
+setup-still s Idle i = still
+setup-still s WaitSetup i = pick-still (s .acceptsA) turning still
+setup-still s WaitActive i = still
+setup-still s WaitAnswer i = i
+setup-still s Active i = still
+setup-still s WaitSetupConf i = still
+setup-still s WaitActiveConf i = still
+setup-still s WaitCalled i = still
+
+answered-still : (s : Said) (rv : RevState) → Still (turnsAnswered s rv)
+answered-still s Idle = pick-still (s .requests) (pick-still (s .partial) turning turning) still
+answered-still s WaitSetup = still
+answered-still s WaitActive = pick-still (s .acceptsB) turning still
+answered-still s WaitAnswer = still
+answered-still s Active = still
+answered-still s WaitSetupConf = still
+answered-still s WaitActiveConf = still
+answered-still s WaitCalled = still
+
+turns-still : (s : Said) {d : Mark} (ph : Phase) (rv : RevState) → Still d → Still (turns s d ph rv)
+turns-still s Unopened rv i = still
+turns-still s Null rv i = still
+turns-still s Setup rv i = setup-still s rv i
+turns-still s Answered rv i = answered-still s rv
+turns-still s Cleared rv i = still
+
+waiting-still : (s : Said) {d : Mark} (rv : RevState) → Still d → Still (stillWaits s d rv)
+waiting-still s Idle i = pick-still (s .requests) turning still
+waiting-still s WaitSetup i = still
+waiting-still s WaitActive i = still
+waiting-still s WaitAnswer i = i
+waiting-still s Active i = still
+waiting-still s WaitSetupConf i = still
+waiting-still s WaitActiveConf i = still
+waiting-still s WaitCalled i = still
 
 waits-still : (f : ℕ) {d : Mark} (s : Step) → Still d → Still (waits f d s)
 waits-still f s i =
-    pick-still (accepted s && (isRev Idle (s .rev) && isRev WaitAnswer (s .revAfter))) (pick-still (said f (s .event) .requests) turning still) i
+    pick-still (accepted s) (pick-still (isRev WaitAnswer (s .revAfter)) (waiting-still (said f (s .event)) (s .rev) i) still) i
 
 pays-none : (w : Took) {m : Mark} (ms : List Mark) (l : List ℕ) → ((b : Bool) → allSeconds (payments w b ms) ≡ l) → Still m →
     (b : Bool) → allSeconds (payments w b (m ∷ ms)) ≡ l
@@ -563,10 +590,10 @@ bill-times w f [] i b = refl
 bill-times w f (s ∷ h) {d} i b = go (counted s) (bill-times w f h (waits-still f s i))
   where
     go : (x : Bool) → ((b′ : Bool) → allSeconds (payments w b′ (marks f (waits f d s) h)) ≡ times h) →
-        allSeconds (payments w b (pick x (second (secondsIn (s .event))) (pick (accepted s && inEffect s) (turns (said f (s .event)) d (s .rev)) plain) ∷ marks f (waits f d s) h))
+        allSeconds (payments w b (pick x (second (secondsIn (s .event))) (pick (accepted s && inEffect s) (turns (said f (s .event)) d (s .phase) (s .rev)) plain) ∷ marks f (waits f d s) h))
         ≡ pick x (secondsIn (s .event) ∷ times h) (times h)
     go true r = ap (λ (l : List ℕ). secondsIn (s .event) ∷ l) (r b)
-    go false r = pays-none w (marks f (waits f d s) h) (times h) r (pick-still (accepted s && inEffect s) (turns-still (said f (s .event)) (s .rev) i) still) b
+    go false r = pays-none w (marks f (waits f d s) h) (times h) r (pick-still (accepted s && inEffect s) (turns-still (said f (s .event)) (s .phase) (s .rev) i) still) b
 
 -- ---- THE THEOREM
 

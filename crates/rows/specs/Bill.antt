@@ -1,10 +1,10 @@
 -- DEMAND 3: who pays each answered second of one originating call, by its history alone.
 --
---   "For one originating call from its opening, with any sequence of well-formed events, refused ones among them: the
---   caller's, called user's and far exchange's seconds add up to the answered seconds (those of accepted time events after
---   answer and before clearing). Each second has one payer, and the history alone names it: the caller where no reversal
---   took effect; after one the far exchange with transfer, the called user without: for the seconds after acceptance in
---   case B, for all of them in A, C and D."
+--   "For one originating call from its opening, with any sequence of well-formed events, refused and rejected ones among them:
+--   the caller's, called user's and far exchange's seconds add up to the answered seconds (those of accepted time events after
+--   answer and before clearing). Each has one payer, and the history alone names them: the caller where no reversal took
+--   effect; after one the far exchange with transfer and the called user without: for the seconds after acceptance in case B
+--   (the caller pays those before), for all of them in A, C and D."
 --
 -- A history is a list of steps, first step first. The bill reads the opening's flags byte and the steps, and nothing else: no
 -- meter, no payer, no total, no case that a call holds. It takes nothing from the definitions of the rows, and reads the numbers
@@ -174,18 +174,41 @@ pub data Mark : Type 0 where
   second : ℕ → Mark
   reversed : Case → Bool → Mark
 
--- A step that leads to ACTIVE. From WAIT-SETUP: the result of case A. From WAIT-ACTIVE: the result of case B. From IDLE: the
--- called user's request in the answered call, B for a part of it, else C. From WAIT-ANSWER: case D, asked for before (d).
--- ACTIVE without the acceptance that leads to it is no reversal
-abbrev pub turns : Said → Mark → RevState → Mark
-turns w d Idle = pick (w .requests) (pick (w .partial) (reversed caseB (w .asksTransfer)) (reversed caseC (w .asksTransfer))) plain
-turns w d WaitSetup = pick (w .acceptsA) (reversed caseA (w .givesTransfer)) plain
-turns w d WaitActive = pick (w .acceptsB) (reversed caseB (w .givesTransfer)) plain
-turns w d WaitAnswer = d
-turns w d Active = plain
-turns w d WaitSetupConf = plain
-turns w d WaitActiveConf = plain
-turns w d WaitCalled = plain
+-- A step that leads to ACTIVE, by phase and REV state before it. ACTIVE without the acceptance that leads to it is no reversal.
+
+-- In SETUP. From WAIT-SETUP: the result of case A. From WAIT-ANSWER: case D, asked for before (d). From IDLE there is none: case D
+-- takes effect at the answer, and not at its request
+abbrev pub turnsSetup : Said → Mark → RevState → Mark
+turnsSetup w d Idle = plain
+turnsSetup w d WaitSetup = pick (w .acceptsA) (reversed caseA (w .givesTransfer)) plain
+turnsSetup w d WaitActive = plain
+turnsSetup w d WaitAnswer = d
+turnsSetup w d Active = plain
+turnsSetup w d WaitSetupConf = plain
+turnsSetup w d WaitActiveConf = plain
+turnsSetup w d WaitCalled = plain
+
+-- the called user's request in the answered call: case B for a part of it, else case C
+abbrev pub requested : Said → Mark
+requested w = pick (w .partial) (reversed caseB (w .asksTransfer)) (reversed caseC (w .asksTransfer))
+
+-- In ANSWERED. From IDLE: the called user's request. From WAIT-ACTIVE: the result of case B
+abbrev pub turnsAnswered : Said → RevState → Mark
+turnsAnswered w Idle = pick (w .requests) (requested w) plain
+turnsAnswered w WaitSetup = plain
+turnsAnswered w WaitActive = pick (w .acceptsB) (reversed caseB (w .givesTransfer)) plain
+turnsAnswered w WaitAnswer = plain
+turnsAnswered w Active = plain
+turnsAnswered w WaitSetupConf = plain
+turnsAnswered w WaitActiveConf = plain
+turnsAnswered w WaitCalled = plain
+
+abbrev pub turns : Said → Mark → Phase → RevState → Mark
+turns w d Unopened r = plain
+turns w d Null r = plain
+turns w d Setup r = turnsSetup w d r
+turns w d Answered r = turnsAnswered w r
+turns w d Cleared r = plain
 
 -- REV in effect: ACTIVE in an answered call
 abbrev pub inEffect : Step → Bool
@@ -194,14 +217,25 @@ inEffect s = isAnswered (s .phaseAfter) && isRev Active (s .revAfter)
 abbrev pub markBy : Said → Mark → Step → Mark
 markBy w d s =
     pick (counted s) (second (secondsIn (s .event)))
-    (pick (accepted s && inEffect s) (turns w d (s .rev)) plain)
+    (pick (accepted s && inEffect s) (turns w d (s .phase) (s .rev)) plain)
 
--- The one thing to remember: a case D that was asked for takes effect later, at the answer. From IDLE to WAIT-ANSWER: the
--- called user's request before the answer
+-- The one thing to remember, for as long as WAIT-ANSWER lasts: a case D that was asked for takes effect later, at the answer.
+
+-- What waits after a step to WAIT-ANSWER, by the REV state before it. From IDLE: the called user's request. Within WAIT-ANSWER: what
+-- has been waiting (d)
+abbrev pub stillWaits : Said → Mark → RevState → Mark
+stillWaits w d Idle = pick (w .requests) (reversed caseD (w .asksTransfer)) plain
+stillWaits w d WaitSetup = plain
+stillWaits w d WaitActive = plain
+stillWaits w d WaitAnswer = d
+stillWaits w d Active = plain
+stillWaits w d WaitSetupConf = plain
+stillWaits w d WaitActiveConf = plain
+stillWaits w d WaitCalled = plain
+
+-- a refused event leaves it as it is
 abbrev pub waitsBy : Said → Mark → Step → Mark
-waitsBy w d s =
-    pick (accepted s && (isRev Idle (s .rev) && isRev WaitAnswer (s .revAfter)))
-    (pick (w .requests) (reversed caseD (w .asksTransfer)) plain) d
+waitsBy w d s = pick (accepted s) (pick (isRev WaitAnswer (s .revAfter)) (stillWaits w d (s .rev)) plain) d
 
 abbrev pub mark : ℕ → Mark → Step → Mark
 mark f d s = markBy (said f (s .event)) d s
@@ -227,19 +261,19 @@ reversal (reversed k t ∷ ms) = took k t
 
 -- ---- The payer of a second, by the reversal and whether the acceptance had passed (b)
 
--- "the far exchange with transfer, the called user without"
+-- "the far exchange with transfer and the called user without"
 abbrev pub turnedTo : Bool → Payer
 turnedTo true = Far
 turnedTo false = Called
 
--- "for the seconds after acceptance in case B, for all of them in A, C and D"
+-- "for the seconds after acceptance in case B (the caller pays those before), for all of them in A, C and D"
 abbrev pub covers : Case → Bool → Bool
 covers caseA b = true
 covers caseB b = b
 covers caseC b = true
 covers caseD b = true
 
--- "the caller where no reversal took effect; after one the far exchange with transfer, the called user without"
+-- "the caller where no reversal took effect; after one the far exchange with transfer and the called user without"
 abbrev pub payer : Took → Bool → Payer
 payer nothing b = Caller
 payer (took k t) b = pick (covers k b) (turnedTo t) Caller
