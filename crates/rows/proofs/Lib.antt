@@ -1,3 +1,6 @@
+pub mod Answers
 pub mod Below
 pub mod Opened
+pub mod Refusals
+pub mod Reversal
 pub mod Whole

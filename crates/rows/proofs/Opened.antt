@@ -22,7 +22,8 @@ use Rattle.rows.specs.declared.Kind.{Kind}
 use Rattle.rows.specs.declared.Message.{Message}
 use Rattle.rows.specs.declared.Number.{Number}
 use Rattle.rows.specs.declared.Outcome.{Outcome}
-use Rattle.rows.proofs.Whole.{null, Shows, agreed-shows, by-kind, guard-3}
+use Rattle.rows.proofs.Answers.{guard-3}
+use Rattle.rows.proofs.Whole.{null, Shows, agreed-shows, by-kind}
 
 -- What is known of the call after a history that began before the opening: nothing has happened; or its meters show the bill
 -- of the steps after the opening; or it is a destination's. A first accepted step that is no opening does not occur.

@@ -44,6 +44,7 @@ use Rattle.rows.specs.declared.RevState.{RevState}
 use Rattle.rows.specs.declared.RevState.the-variants.{Idle, WaitSetup, WaitActive, WaitAnswer, Active, WaitSetupConf, WaitActiveConf, WaitCalled}
 use Rattle.rows.specs.declared.Role.the-variants.{Originating}
 use Rattle.rows.specs.declared.Row.{Row}
+use Rattle.rows.proofs.Answers.{settled, guard-3, guard-9}
 
 -- ---- What a reader of the history knows so far: the reversal, the seconds before it and those after it
 
@@ -176,13 +177,6 @@ switches : {m : Meters} {x : ℕ} (t : Bool) → Right m (known nothing x 0) →
     Right (record { caller = m .caller; called = m .called; far = m .far; payer = turnedTo t }) (known (took caseB t) x 0)
 switches true z = record { pays = refl; owes = omega arith }
 switches false z = record { pays = refl; owes = omega arith }
-
--- 10 and 2 are refusals; else the meters that follow are those of the change
-settled : (P : Outcome → Type 0) (x : Metered) (c : Call) (p : Plan) (r : Reading) →
-    ((n : Meters) → x ≡ Done n → P (followsOf c p r n)) → P (refusedOf 10 c) → P (refusedOf 2 c) → P (settledOf x c p r)
-settled P (Done n) c p r h i j = h n refl
-settled P NoPayer c p r h i j = i
-settled P TooMuch c p r h i j = j
 
 -- ---- Where a row that reverses nothing may leave a call
 
@@ -442,20 +436,11 @@ takes f (FromAccess k n) y = tells f k n y
 takes f Expiry y = expires f y
 takes f (Time s) y = passes f s y
 
--- 9 and 3 are refusals; else the row decides
-guard-9 : (P : Outcome → Type 0) (b : Bool) (c : Call) (e : Event) → P (ifInRange (eventOk e) c e) → P (refusedOf 9 c) → P (ifCall b c e)
-guard-9 P true c e p q = p
-guard-9 P false c e p q = q
-
-pub guard-3 : (P : Outcome → Type 0) (b : Bool) (c : Call) (e : Event) → P (takesOf c e) → P (refusedOf 3 c) → P (ifInRange b c e)
-guard-3 P true c e p q = p
-guard-3 P false c e p q = q
-
 keeps-heard : (f : ℕ) {c : Call} {d : Mark} {o : Known} (e : Event) → Agrees f c d o → Good f (heardIn f e) c d o e (stepOf c e)
 keeps-heard f {c} {d} {o} e y =
     guard-9 (Good f (heardIn f e) c d o e) (validOf c) c e (guard-3 (Good f (heardIn f e) c d o e) (eventOk e) c e (takes f e y) y) y
 
-keeps : (f : ℕ) {c : Call} {d : Mark} {o : Known} (e : Event) → Agrees f c d o → Good f (said f e) c d o e (stepOf c e)
+pub keeps : (f : ℕ) {c : Call} {d : Mark} {o : Known} (e : Event) → Agrees f c d o → Good f (said f e) c d o e (stepOf c e)
 keeps f {c} {d} {o} e y = subst (λ (s : Said). Good f s c d o e (stepOf c e)) (same-words f e) (keeps-heard f e y)
 
 -- ---- THE INDUCTION: from a call that agrees, any events lead to one that agrees
