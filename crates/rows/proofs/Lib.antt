@@ -1,5 +1,6 @@
 pub mod Answers
 pub mod Below
+pub mod Digits
 pub mod Opened
 pub mod Refusals
 pub mod Reversal
