@@ -1,12 +1,12 @@
 -- What the meters promise to the rows above them: seconds go to the payer's meter and to no other, none is lost and none
 -- is made, and no sum passes the limit. Demand 3 rests on these and on nothing else of this crate.
 -- Assumes nothing.
-use mathlib.Core.Path.{_≡_, refl, sym, ap}
+use mathlib.Core.Path.{_≡_, refl, sym, ap, subst}
 use mathlib.Core.Bool.{Bool, true, false}
 use Prim.Native.Nat.{ℕ, _+_, _≤_, _<_}
 use native.Mathlib.Omega.{arith}
 use lib.Dec.{leb}
-use borrow.Author.Tests.{leb-true, leb-false}
+use borrow.Author.Tests.{leb-true, leb-false, le-leb}
 use Rattle.meters.specs.declared.Payer.{Payer}
 use Rattle.meters.specs.declared.Payer.the-variants.{Nobody, Caller, Called, Far}
 use Rattle.meters.specs.declared.Meters.{Meters}
@@ -127,3 +127,26 @@ pub duration-counts : (m n : Meters) (s : ℕ) → receivedOf m s ≡ Done n →
 duration-counts m n s h =
     let g : Gave _ n Called s = gave _ n s h in
     (omega (arith, g .called), omega (arith, g .far))
+
+-- ---- What is not refused: what holds of all meters that were done holds of a change that fits
+
+adds-fit : (P : Metered → Type 0) (m : Meters) (a b f : ℕ) → totalOf m + (a + b + f) ≤ limit → ((n : Meters) → P (Done n)) → P (addsOf m a b f)
+adds-fit P m a b f h d =
+    subst (λ (t : Bool). P (unlessPast t (record { caller = m .caller + a; called = m .called + b; far = m .far + f; payer = m .payer })))
+    (sym (le-leb _ _ h)) (d _)
+
+-- time that keeps the sum within the limit is taken where somebody pays
+pub gives-fit : (P : Metered → Type 0) (p : Payer) (m : Meters) (s : ℕ) → (p ≡ Nobody → ⊥) → totalOf m + s ≤ limit →
+    ((n : Meters) → P (Done n)) → P (givesTo p m s)
+gives-fit P Nobody m s h l d = absurd (h refl)
+gives-fit P Caller m s h l d = adds-fit P m s 0 0 (omega (arith, l)) d
+gives-fit P Called m s h l d = adds-fit P m 0 s 0 (omega (arith, l)) d
+gives-fit P Far m s h l d = adds-fit P m 0 0 s (omega (arith, l)) d
+
+-- case C moves what was within the limit
+pub entire-fits : (P : Metered → Type 0) (p : Payer) (m : Meters) → (p ≡ Nobody → ⊥) → totalOf m ≤ limit → ((n : Meters) → P (Done n)) → P (entireOf m p)
+entire-fits P p m h l d = gives-fit P p _ (m .caller) h (omega (arith, l)) d
+
+-- a Duration within the limit is taken
+pub duration-fits : (P : Metered → Type 0) (m : Meters) (s : ℕ) → m .caller + s ≤ limit → ((n : Meters) → P (Done n)) → P (receivedOf m s)
+duration-fits P m s l d = adds-fit P _ 0 s 0 (omega (arith, l)) d

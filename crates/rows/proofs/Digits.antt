@@ -34,16 +34,9 @@ use Rattle.rows.specs.declared.Register.the-variants.{AsHeld, FromOpenin
 use Rattle.rows.specs.declared.Role.{Role}
 use Rattle.rows.specs.declared.Stand.{Stand}
 use Rattle.rows.proofs.Answers.{planFor}
+use Rattle.rows.proofs.Truth.{left, right}
 
 -- ---- What a number is asked: whether it is in range, there, absent
-
-left : (a b : Bool) → (a && b) ≡ true → a ≡ true
-left true b h = refl
-left false b h = h
-
-right : (a b : Bool) → (a && b) ≡ true → b ≡ true
-right true b h = h
-right false b h = let n : _≡_ {A = ℕ} 0 1 = cc in absurd (omega arith)
 
 ranged : {n m : Number} → OtherDigits n m → inRange n ≡ inRange m
 ranged the-same = refl

