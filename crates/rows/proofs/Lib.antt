@@ -2,6 +2,7 @@ pub mod Answers
 pub mod Below
 pub mod Digits
 pub mod Opened
+pub mod Progress
 pub mod Refusals
 pub mod Reversal
 pub mod Truth

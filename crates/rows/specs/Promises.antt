@@ -1,21 +1,29 @@
 -- What the theorems about the rows speak of (proofs/Theorems.antt states them, each with its sentence).
 -- Assumes nothing.
 use Prim.Native.Nat.{ℕ, _+_}
-use mathlib.Core.Bool.{true}
+use mathlib.Core.Bool.{Bool, true, false, _&&_, _||_, not}
 use mathlib.Core.List.{List, [], _∷_, _++_}
 use mathlib.Core.Path.{_≡_}
+use lib.Dec.{eqb, leb}
+use Rattle.meters.specs.Meters.{limit}
 use Rattle.meters.specs.declared.Meters.{Meters}
-use Rattle.rows.specs.Bill.{Case, Mark, plain, second, reversed, Paid, Step}
+use Rattle.rows.specs.Bill.{bitAt, lowestBit, resultTo, invokeOf, Case, Mark, plain, second, reversed, Paid, Step}
 use Rattle.rows.specs.Valid.{numberThere}
 use Rattle.rows.specs.declared.Call.{Call}
 use Rattle.rows.specs.declared.Component.{Component}
+use Rattle.rows.specs.declared.Component.the-variants.{Absent, Invoke, Result, Error, Reject, Unknown}
 use Rattle.rows.specs.declared.Event.{Event}
 use Rattle.rows.specs.declared.Event.the-variants.{Opening, Ask, Received, FromAccess, Expiry, Time}
 use Rattle.rows.specs.declared.Flags.{Flags}
 use Rattle.rows.specs.declared.Message.{Message}
 use Rattle.rows.specs.declared.Number.{Number}
 use Rattle.rows.specs.declared.Outcome.{Outcome}
+use Rattle.rows.specs.declared.Phase.{Phase}
+use Rattle.rows.specs.declared.Phase.the-variants.{Unopened, Null, Setup, Answered, Cleared}
+use Rattle.rows.specs.declared.RevState.{RevState}
+use Rattle.rows.specs.declared.RevState.the-variants.{Idle, WaitSetup, WaitActive, WaitAnswer, Active, WaitSetupConf, WaitActiveConf, WaitCalled}
 use Rattle.rows.specs.declared.Role.{Role}
+use Rattle.rows.specs.declared.Role.the-variants.{Originating, Destination}
 use Rattle.rows.specs.declared.Stand.{Stand}
 
 -- ---- The bill of a longer history
@@ -78,3 +86,118 @@ pub record SameAnswer (a b : Outcome) : Type 0 where
 abbrev pub numbers : List Step → List ℕ
 numbers [] = []
 numbers (s ∷ h) = s .number ∷ numbers h
+
+-- ---- What leads to ACTIVE: the rows of docs/ROWS.md that do, by role, phase and REV state, each with the parts that it needs
+
+abbrev pub isAnswer : Message → Bool
+isAnswer m = eqb (m .kind) 2 || eqb (m .kind) 3
+
+abbrev pub isFacility : Message → Bool
+isFacility m = eqb (m .kind) 5
+
+abbrev pub bare : Component → Bool
+bare (Absent n) = true
+bare (Invoke n) = false
+bare (Result n) = false
+bare (Error n) = false
+bare (Reject n) = false
+bare (Unknown c n) = false
+
+-- originating, SETUP
+abbrev pub setupTurns : RevState → Message → Bool
+setupTurns Idle m = false
+setupTurns WaitSetup m = isAnswer m && resultTo 1 (m .component)  -- O9, O10: ANM or CON with the result of case A
+setupTurns WaitActive m = false
+setupTurns WaitAnswer m = isAnswer m && bare (m .component)  -- O16, O17: the answer after a case D request
+setupTurns Active m = false
+setupTurns WaitSetupConf m = false
+setupTurns WaitActiveConf m = false
+setupTurns WaitCalled m = false
+
+-- 01: "the called number with an invoke CALLED that doesn't ask for transfer"
+abbrev pub asksFully : Flags → Message → Bool
+asksFully f m = f .interaction && (lowestBit (m .parts) || bitAt 32 (m .parts))
+
+-- originating, ANSWERED
+abbrev pub answeredTurns : RevState → Flags → Message → Bool
+answeredTurns Idle f m = isFacility m && (invokeOf 3 (m .component) && asksFully f m)  -- O24 to O27: cases B and C asked for by the called user
+answeredTurns WaitSetup f m = false
+answeredTurns WaitActive f m = isFacility m && resultTo 2 (m .component)  -- O28, O29: FAC with the result of case B
+answeredTurns WaitAnswer f m = false
+answeredTurns Active f m = false
+answeredTurns WaitSetupConf f m = false
+answeredTurns WaitActiveConf f m = false
+answeredTurns WaitCalled f m = false
+
+-- 01: "the calling number with a result to CALLED where transfer was asked and accepted, and in case C the duration too"; the
+-- Duration used is within the limit. rest: the request was for the rest of the call, case B
+abbrev pub acceptsFully : Flags → Bool → Message → Bool
+acceptsFully f rest m =
+    not (f .transfer && (bitAt 2 (m .parts) && bitAt 4 (m .parts)))
+    || (bitAt 16 (m .parts) && (rest || (bitAt 64 (m .parts) && leb (m .duration) limit)))
+
+-- destination, ANSWERED
+abbrev pub calledTurns : RevState → Flags → Bool → Message → Bool
+calledTurns Idle f rest m = false
+calledTurns WaitSetup f rest m = false
+calledTurns WaitActive f rest m = false
+calledTurns WaitAnswer f rest m = false
+calledTurns Active f rest m = false
+calledTurns WaitSetupConf f rest m = false
+calledTurns WaitActiveConf f rest m = false
+calledTurns WaitCalled f rest m = isFacility m && (resultTo 3 (m .component) && acceptsFully f rest m)  -- D45 to D47: the result of case B or C
+
+-- destination, SETUP: what the own access tells
+abbrev pub setupTold : RevState → ℕ → Bool
+setupTold Idle a = false
+setupTold WaitSetup a = false
+setupTold WaitActive a = false
+setupTold WaitAnswer a = eqb a 5  -- D22, D23: the answer after a case D request
+setupTold Active a = false
+setupTold WaitSetupConf a = eqb a 1  -- D10, D11: case A accepted
+setupTold WaitActiveConf a = false
+setupTold WaitCalled a = false
+
+-- destination, ANSWERED: what the own access tells
+abbrev pub answeredTold : RevState → ℕ → Bool
+answeredTold Idle a = false
+answeredTold WaitSetup a = false
+answeredTold WaitActive a = false
+answeredTold WaitAnswer a = false
+answeredTold Active a = false
+answeredTold WaitSetupConf a = false
+answeredTold WaitActiveConf a = eqb a 1  -- D36, D37: case B accepted
+answeredTold WaitCalled a = false
+
+abbrev pub messageTurns : Role → Phase → RevState → Flags → Bool → Message → Bool
+messageTurns r Unopened s f rest m = false
+messageTurns r Null s f rest m = false
+messageTurns Originating Setup s f rest m = setupTurns s m
+messageTurns Destination Setup s f rest m = false
+messageTurns Originating Answered s f rest m = answeredTurns s f m
+messageTurns Destination Answered s f rest m = calledTurns s f rest m
+messageTurns r Cleared s f rest m = false
+
+abbrev pub accessTurns : Role → Phase → RevState → ℕ → Bool
+accessTurns r Unopened s a = false
+accessTurns r Null s a = false
+accessTurns Originating Setup s a = false
+accessTurns Destination Setup s a = setupTold s a
+accessTurns Originating Answered s a = false
+accessTurns Destination Answered s a = answeredTold s a
+accessTurns r Cleared s a = false
+
+-- an event by which reverse charging takes effect
+abbrev pub takesEffect : Call → Event → Bool
+takesEffect c (Opening r f n) = false
+takesEffect c (Ask q n) = false
+takesEffect c (Received m) = messageTurns (c .side .role) (c .stand .phase) (c .stand .rev) (c .side .flags) (c .stand .rest) m
+takesEffect c (FromAccess a n) = accessTurns (c .side .role) (c .stand .phase) (c .stand .rev) a
+takesEffect c Expiry = false
+takesEffect c (Time s) = false
+
+-- a row applied, and reverse charging is in effect
+pub record InEffect (o : Outcome) : Type 0 where
+  pub number : o .number ≡ 0
+  pub phase : o .call .stand .phase ≡ Answered
+  pub rev : o .call .stand .rev ≡ Active
