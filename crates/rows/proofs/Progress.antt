@@ -16,7 +16,7 @@ use Rattle.meters.specs.declared.Payer.the-variants.{Nobody, Caller, Called, Fa
 use Rattle.rows.specs.Bill.{bitAt, lowestBit, resultTo, invokeOf, turnedTo}
 use Rattle.rows.specs.Perform.{settledOf, performOf}
 use Rattle.rows.specs.Promises.{sent, holding, isAnswer, isFacility, bare, setupTurns, asksFully, answeredTurns, acceptsFully, calledTurns, setupTold, answeredTold, messageTurns, accessTurns, takesEffect, InEffect}
-use Rattle.rows.specs.Read.{bit, lowest, readOf, termsOf}
+use Rattle.rows.specs.Read.{bit, lowest, readOf, interactionBy, modeBy, extentBy, termsOf}
 use Rattle.rows.specs.Rows
 use Rattle.rows.specs.Step.{takesOf, stepOf}
 use Rattle.rows.specs.Valid.{placedOf, meteredOf, payingOf, validOf, eventOk}
@@ -25,8 +25,12 @@ use Rattle.rows.specs.declared.Component.{Component}
 use Rattle.rows.specs.declared.Component.the-variants.{Absent, Invoke, Result, Error, Reject, Unknown}
 use Rattle.rows.specs.declared.Event.{Event}
 use Rattle.rows.specs.declared.Event.the-variants.{Opening, Ask, Received, FromAccess, Expiry, Time}
+use Rattle.rows.specs.declared.Extent.the-variants.{Rest, Entire}
 use Rattle.rows.specs.declared.Flags.{Flags}
+use Rattle.rows.specs.declared.Interaction.the-variants.{Allowed, NotAllowed}
 use Rattle.rows.specs.declared.Message.{Message}
+use Rattle.rows.specs.declared.Mode.{Mode}
+use Rattle.rows.specs.declared.Mode.the-variants.{NoTransfer, Transfer}
 use Rattle.rows.specs.declared.Next.the-variants.{Stay}
 use Rattle.rows.specs.declared.Number.{Number}
 use Rattle.rows.specs.declared.Outcome.{Outcome}
@@ -115,41 +119,44 @@ module _ (c : Call) (r : Reading) where
   Turns p = InEffect (performOf c p r)
 
   -- with transfer and without
-  either-way : (p : Bool → Plan) → Turns (p true) → Turns (p false) → (t : Bool) → Turns (p t)
+  either-way : (p : Mode → Plan) → Turns (p Transfer) → Turns (p NoTransfer) → (t : Bool) → Turns (p (modeBy t))
   either-way p x y true = x
   either-way p x y false = y
 
-  accepted : (t : Bool) → Turns (Rows.accepted t)
-  accepted = either-way Rows.accepted (record { number = refl; phase = refl; rev = refl }) (record { number = refl; phase = refl; rev = refl })
+  at-answer : (t : Bool) → Turns (Rows.acceptedAtAnswer (modeBy t))
+  at-answer = either-way Rows.acceptedAtAnswer (record { number = refl; phase = refl; rev = refl }) (record { number = refl; phase = refl; rev = refl })
 
-  setup-confirmed : (t : Bool) → Turns (Rows.setupConfirmed t)
+  in-call : (t : Bool) → Turns (Rows.acceptedInCall (modeBy t))
+  in-call = either-way Rows.acceptedInCall (record { number = refl; phase = refl; rev = refl }) (record { number = refl; phase = refl; rev = refl })
+
+  setup-confirmed : (t : Bool) → Turns (Rows.setupConfirmed (modeBy t))
   setup-confirmed = either-way Rows.setupConfirmed (record { number = refl; phase = refl; rev = refl }) (record { number = refl; phase = refl; rev = refl })
 
-  call-connected : (t : Bool) → Turns (Rows.callConnected t)
-  call-connected = either-way Rows.callConnected (record { number = refl; phase = refl; rev = refl }) (record { number = refl; phase = refl; rev = refl })
+  unconditional-connected : (t : Bool) → Turns (Rows.unconditionalConnected (modeBy t))
+  unconditional-connected = either-way Rows.unconditionalConnected (record { number = refl; phase = refl; rev = refl }) (record { number = refl; phase = refl; rev = refl })
 
-  active-confirmed : (t : Bool) → Turns (Rows.activeConfirmed t)
+  active-confirmed : (t : Bool) → Turns (Rows.activeConfirmed (modeBy t))
   active-confirmed = either-way Rows.activeConfirmed (record { number = refl; phase = refl; rev = refl }) (record { number = refl; phase = refl; rev = refl })
 
   -- interaction allowed, transfer taken, called number or transfer requested, partial. Case C moves what was within the limit
-  called-asked : totalOf (c .meters) ≤ limit → (i t e p : Bool) → (i && e) ≡ true → Turns (Rows.calledAsked i t e p)
+  called-asked : totalOf (c .meters) ≤ limit → (i t e p : Bool) → (i && e) ≡ true → Turns (Rows.calledAsked (interactionBy i) (extentBy p) (modeBy t) e)
   called-asked l false t e p h = differ h
   called-asked l true t false p h = differ h
   called-asked l true false true true h = record { number = refl; phase = refl; rev = refl }
   called-asked l true true true true h = record { number = refl; phase = refl; rev = refl }
   called-asked l true false true false h =
-      entire-fits (λ (x : Metered). InEffect (settledOf x c (Rows.calledAsked true false true false) r)) Called (c .meters) (somebody false) l
+      entire-fits (λ (x : Metered). InEffect (settledOf x c (Rows.calledAsked Allowed Entire NoTransfer true) r)) Called (c .meters) (somebody false) l
       (λ n. record { number = refl; phase = refl; rev = refl })
   called-asked l true true true false h =
-      entire-fits (λ (x : Metered). InEffect (settledOf x c (Rows.calledAsked true true true false) r)) Far (c .meters) (somebody true) l
+      entire-fits (λ (x : Metered). InEffect (settledOf x c (Rows.calledAsked Allowed Entire Transfer true) r)) Far (c .meters) (somebody true) l
       (λ n. record { number = refl; phase = refl; rev = refl })
 
   -- in transfer mode, calling number there, for the rest of the call, Duration there
-  called-accepted : c .meters .caller ≡ 0 → (t n b d : Bool) → (not t || (n && (b || (d && leb (r .seconds) limit)))) ≡ true → Turns (Rows.calledAccepted t n b d)
+  called-accepted : c .meters .caller ≡ 0 → (t n b d : Bool) → (not t || (n && (b || (d && leb (r .seconds) limit)))) ≡ true → Turns (Rows.calledAccepted (extentBy b) (modeBy t) n d)
   called-accepted z false n b d h = record { number = refl; phase = refl; rev = refl }
   called-accepted z true true true d h = record { number = refl; phase = refl; rev = refl }
   called-accepted z true true false true h =
-      duration-fits (λ (x : Metered). InEffect (settledOf x c (Rows.calledAccepted true true false true) r)) (c .meters) (r .seconds)
+      duration-fits (λ (x : Metered). InEffect (settledOf x c (Rows.calledAccepted Entire Transfer true true) r)) (c .meters) (r .seconds)
       (omega (arith, z, leb-true (r .seconds) limit h)) (λ n. record { number = refl; phase = refl; rev = refl })
   called-accepted z true true false false h = differ h
   called-accepted z true false b d h = differ h
@@ -206,11 +213,11 @@ module _ (f : Flags) (a b : Bool) (mt : Meters) (u v w : Number) where
     in-setup Idle h = differ h
     in-setup WaitSetup h =
         a-result (Leads Originating Setup WaitSetup (m .kind)) 1 (m .component) (right (isAnswer m) _ h)
-        (an-answer (λ (k : ℕ). Leads Originating Setup WaitSetup k (Result 1)) (m .kind) (left _ _ h) (accepted _ _ transferred) (accepted _ _ transferred))
+        (an-answer (λ (k : ℕ). Leads Originating Setup WaitSetup k (Result 1)) (m .kind) (left _ _ h) (at-answer _ _ transferred) (at-answer _ _ transferred))
     in-setup WaitActive h = differ h
     in-setup WaitAnswer h =
         no-component (Leads Originating Setup WaitAnswer (m .kind)) (m .component) (right (isAnswer m) _ h)
-        (λ n. an-answer (λ (k : ℕ). Leads Originating Setup WaitAnswer k (Absent n)) (m .kind) (left _ _ h) (accepted _ _ a) (accepted _ _ a))
+        (λ n. an-answer (λ (k : ℕ). Leads Originating Setup WaitAnswer k (Absent n)) (m .kind) (left _ _ h) (at-answer _ _ a) (at-answer _ _ a))
     in-setup Active h = differ h
     in-setup WaitSetupConf h = differ h
     in-setup WaitActiveConf h = differ h
@@ -226,7 +233,7 @@ module _ (f : Flags) (a b : Bool) (mt : Meters) (u v w : Number) where
     in-answered l WaitSetup h = differ h
     in-answered l WaitActive h =
         a-facility (λ (k : ℕ). Leads Originating Answered WaitActive k (m .component)) (m .kind) (left _ _ h)
-        (a-result (Leads Originating Answered WaitActive 5) 2 (m .component) (right (isFacility m) _ h) (accepted _ _ transferred))
+        (a-result (Leads Originating Answered WaitActive 5) 2 (m .component) (right (isFacility m) _ h) (in-call _ _ transferred))
     in-answered l WaitAnswer h = differ h
     in-answered l Active h = differ h
     in-answered l WaitSetupConf h = differ h
@@ -266,7 +273,7 @@ module _ (f : Flags) (a b : Bool) (mt : Meters) (u v w : Number) where
     told-in-setup Idle k h = differ h
     told-in-setup WaitSetup k h = differ h
     told-in-setup WaitActive k h = differ h
-    told-in-setup WaitAnswer k h = subst (Told Setup WaitAnswer) (sym (eqb-true k 5 h)) (call-connected _ _ a)
+    told-in-setup WaitAnswer k h = subst (Told Setup WaitAnswer) (sym (eqb-true k 5 h)) (unconditional-connected _ _ a)
     told-in-setup Active k h = differ h
     told-in-setup WaitSetupConf k h = subst (Told Setup WaitSetupConf) (sym (eqb-true k 1 h)) (setup-confirmed _ _ a)
     told-in-setup WaitActiveConf k h = differ h

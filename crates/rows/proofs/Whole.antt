@@ -19,7 +19,7 @@ use Rattle.rows.specs.Bill.{pick, Step, accepted, isAnswered, secondsIn,
 use Rattle.rows.specs.Find.{when, originatingNullOf, originatingSetupIdleOf, waitSetupOf, originatingWaitAnswerOf, originatingAnsweredIdleOf, waitActiveOf, activeOf}
 use Rattle.rows.specs.History.{run, written, history, opening}
 use Rattle.rows.specs.Perform.{refusedOf, followsOf, settledOf, performOf}
-use Rattle.rows.specs.Read.{bit, lowest, flagsOf, heardOf, kindBy, kindOf, readOf, cueOf, termsOf}
+use Rattle.rows.specs.Read.{bit, lowest, flagsOf, heardOf, kindBy, kindOf, readOf, errorOf, cueOf, listedOf, interactionBy, modeBy, extentBy, correctBy, termsOf}
 use Rattle.rows.specs.Rows
 use Rattle.rows.specs.Rows.{planOf}
 use Rattle.rows.specs.Step.{unopenedCall, takesOf, ifInRange, ifCall, stepOf}
@@ -27,13 +27,19 @@ use Rattle.rows.specs.Valid.{validOf, eventOk}
 use Rattle.rows.specs.declared.Call.{Call}
 use Rattle.rows.specs.declared.Component.{Component}
 use Rattle.rows.specs.declared.Component.the-variants.{Absent, Invoke, Result, Error, Reject, Unknown}
+use Rattle.rows.specs.declared.Correctness.{Correctness}
+use Rattle.rows.specs.declared.Correctness.the-variants.{Correct, Incorrect}
 use Rattle.rows.specs.declared.Cue.{Cue}
 use Rattle.rows.specs.declared.Event.{Event}
 use Rattle.rows.specs.declared.Event.the-variants.{Opening, Ask, Received, FromAccess, Expiry, Time}
 use Rattle.rows.specs.declared.Heard.{Heard}
+use Rattle.rows.specs.declared.Interaction.{Interaction}
+use Rattle.rows.specs.declared.Interaction.the-variants.{Allowed, NotAllowed}
 use Rattle.rows.specs.declared.Kind.{Kind}
 use Rattle.rows.specs.declared.Kind.the-variants.{Iam, Answer, Rel, Fac}
 use Rattle.rows.specs.declared.Message.{Message}
+use Rattle.rows.specs.declared.Mode.{Mode}
+use Rattle.rows.specs.declared.Mode.the-variants.{NoTransfer, Transfer}
 use Rattle.rows.specs.declared.Number.{Number}
 use Rattle.rows.specs.declared.Outcome.{Outcome}
 use Rattle.rows.specs.declared.Phase.{Phase}
@@ -232,44 +238,54 @@ abbrev Does : ℕ → Said → Call → Mark → Known → Event → Plan → Ty
 Does f s c d o e p = Good f s c d o e (performOf c p (readOf e))
 
 module _ (f : ℕ) (u v w : Number) (a r : Bool) (d : Mark) (q : ℕ) (n : Number) where
-  -- case A asked for by the own user: interaction allowed, transfer mode
-  plan-A : (i t : Bool) → Does f silence (at f u v w Null Idle a r newOf) d atFirst (Ask q n) (Rows.askSetup i t)
-  plan-A false t = search states
-  plan-A true false = search states
-  plan-A true true = search states
+  -- case A asked for by the own user
+  plan-A : (i : Interaction) (t : Mode) → Does f silence (at f u v w Null Idle a r newOf) d atFirst (Ask q n) (Rows.askSetup i t)
+  plan-A NotAllowed t = search states
+  plan-A Allowed NoTransfer = search states
+  plan-A Allowed Transfer = search states
 
   -- case B asked for by the own user
-  plan-B : {m : Meters} {x : ℕ} (i t : Bool) → Right m (known nothing x 0) →
+  plan-B : {m : Meters} {x : ℕ} (i : Interaction) (t : Mode) → Right m (known nothing x 0) →
       Does f silence (at f u v w Answered Idle a r m) d (known nothing x 0) (Ask q n) (Rows.askActive i t)
-  plan-B false t z = search states
-  plan-B true false z = search states
-  plan-B true true z = search states
+  plan-B NotAllowed t z = search states
+  plan-B Allowed NoTransfer z = search states
+  plan-B Allowed Transfer z = search states
 
 -- the same Booleans stand in the row and in what the message says; s: what else it says
 module _ (f : ℕ) (u v w : Number) (a r : Bool) (d : Mark) (m : Message) (s : Said) where
-  -- case D asked for by the called user: interaction allowed, transfer taken, called number or transfer requested
-  plan-D : (i k n : Bool) →
-      Does f (saying (s .acceptsA) (s .acceptsB) true (s .partial) k (s .givesTransfer)) (at f u v w Setup Idle a r newOf) d atFirst (Received m) (Rows.callAsked i k n)
-  plan-D false k n = search states
-  plan-D true false true = search states
-  plan-D true false false = search states
-  plan-D true true n = search states
+  -- case D asked for by the called user: transfer taken, called number or transfer requested
+  plan-D : (i : Interaction) (k n : Bool) →
+      Does f (saying (s .acceptsA) (s .acceptsB) true (s .partial) k (s .givesTransfer)) (at f u v w Setup Idle a r newOf) d atFirst (Received m) (Rows.unconditionalAsked i (modeBy k) n)
+  plan-D NotAllowed k n = search states
+  plan-D Allowed false true = search states
+  plan-D Allowed false false = search states
+  plan-D Allowed true n = search states
 
   -- case D answered, in transfer mode or not
-  accepted-D : (k : Bool) → Does f s (at f u v w Setup WaitAnswer k r newOf) (reversed caseD k) atFirst (Received m) (Rows.accepted k)
+  accepted-D : (k : Bool) → Does f s (at f u v w Setup WaitAnswer k r newOf) (reversed caseD k) atFirst (Received m) (Rows.acceptedAtAnswer (modeBy k))
   accepted-D true = turned (record { pays = refl; owes = (refl, refl, refl) })
   accepted-D false = turned (record { pays = refl; owes = (refl, refl, refl) })
 
   -- case A accepted
   accepted-A : (k : Bool) →
-      Does f (saying true (s .acceptsB) (s .requests) (s .partial) (s .asksTransfer) k) (at f u v w Setup WaitSetup a r newOf) d atFirst (Received m) (Rows.accepted k)
+      Does f (saying true (s .acceptsB) (s .requests) (s .partial) (s .asksTransfer) k) (at f u v w Setup WaitSetup a r newOf) d atFirst (Received m) (Rows.acceptedAtAnswer (modeBy k))
   accepted-A true = turned (record { pays = refl; owes = (refl, refl, refl) })
   accepted-A false = turned (record { pays = refl; owes = (refl, refl, refl) })
 
+  -- case A refused
+  error-A : (k : Correctness) (e n : ℕ) → Does f s (at f u v w Setup WaitSetup a r newOf) d atFirst (Received m) (Rows.setupError k e n)
+  error-A Correct e n = search states
+  error-A Incorrect e n = search states
+
   module _ {n : Meters} {x : ℕ} (z : Right n (known nothing x 0)) where
+    -- case B refused
+    error-B : (k : Correctness) (e : ℕ) → Does f s (at f u v w Answered WaitActive a r n) d (known nothing x 0) (Received m) (Rows.waitError k e)
+    error-B Correct e = search states
+    error-B Incorrect e = search states
+
     -- case B, asked for by the caller, accepted
     accepted-B : (k : Bool) →
-        Does f (saying (s .acceptsA) true (s .requests) (s .partial) (s .asksTransfer) k) (at f u v w Answered WaitActive a r n) d (known nothing x 0) (Received m) (Rows.accepted k)
+        Does f (saying (s .acceptsA) true (s .requests) (s .partial) (s .asksTransfer) k) (at f u v w Answered WaitActive a r n) d (known nothing x 0) (Received m) (Rows.acceptedInCall (modeBy k))
     accepted-B true = turned (switches true z)
     accepted-B false = turned (switches false z)
 
@@ -281,16 +297,17 @@ module _ (f : ℕ) (u v w : Number) (a r : Bool) (d : Mark) (m : Message) (s : S
     abbrev GoodC : Bool → Outcome → Type 0
     GoodC k o = Good f (saying (s .acceptsA) (s .acceptsB) true false k (s .givesTransfer)) (at f u v w Answered Idle a r n) d (known nothing x 0) (Received m) o
 
-    -- cases B and C, asked for by the called user: interaction allowed, transfer taken, called number or transfer requested, partial
-    plan-BC : (i k l c : Bool) → DoesBC c k (Rows.calledAsked i k l c)
-    plan-BC false k l c = search states
-    plan-BC true false true true = turned (switches false z)
-    plan-BC true true l true = turned (switches true z)
-    plan-BC true false true false =
+    -- cases B and C, asked for by the called user: transfer taken, called number or transfer requested, partial
+    plan-BC : (i : Interaction) (k l c : Bool) → DoesBC c k (Rows.calledAsked i (extentBy c) (modeBy k) l)
+    plan-BC NotAllowed k l c = search states
+    plan-BC Allowed false true true = turned (switches false z)
+    plan-BC Allowed true l true = turned (switches true z)
+    plan-BC Allowed false true false =
         settled (GoodC false) (entireOf n Called) _ _ _ (λ n′ h. turned (moves false z (moved n n′ Called h))) (search states) (search states)
-    plan-BC true true l false =
+    plan-BC Allowed true l false =
         settled (GoodC true) (entireOf n Far) _ _ _ (λ n′ h. turned (moves true z (moved n n′ Far h))) (search states) (search states)
-    plan-BC true false false c = search states
+    plan-BC Allowed false false true = search states
+    plan-BC Allowed false false false = search states
 
 -- ---- Each event in each state
 
@@ -311,12 +328,12 @@ opens f k g n (over z) = search states
 asks : (f q : ℕ) (n : Number) {c : Call} {d : Mark} {o : Known} → Agrees f c d o → Kept f c d o (Ask q n)
 asks f q n {c} {d} {o} (null {u} {v} {w} {a} {r}) =
     split (Fine f silence c d o (Ask q n)) (eqb q 0) _ _ (search states)
-    (split (Fine f silence c d o (Ask q n)) (eqb q 1) _ _ (plan-A f u v w a r d q n (bit 8 f) (lowest f)) (search states))
+    (split (Fine f silence c d o (Ask q n)) (eqb q 1) _ _ (plan-A f u v w a r d q n (interactionBy (bit 8 f)) (modeBy (lowest f))) (search states))
 asks f q n setup = search states
 asks f q n asked-A = search states
 asks f q n asked-D = search states
 asks f q n {c} {d} {o} (talks {u} {v} {w} {a} {r} z) =
-    split (Fine f silence c d o (Ask q n)) (eqb q 2) _ _ (plan-B f u v w a r d q n (bit 8 f) (lowest f) z) (search states)
+    split (Fine f silence c d o (Ask q n)) (eqb q 2) _ _ (plan-B f u v w a r d q n (interactionBy (bit 8 f)) (modeBy (lowest f)) z) (search states)
 asks f q n {c} {d} {o} (asked-B z) = split (Fine f silence c d o (Ask q n)) (leb 1 q && leb q 3) _ _ (search states) (search states)
 asks f q n {c} {d} {o} (turned z) = split (Fine f silence c d o (Ask q n)) (leb 1 q && leb q 3) _ _ (search states) (search states)
 asks f q n (over z) = search states
@@ -360,13 +377,14 @@ module _ (f : ℕ) (m : Message) where
       (split (P c d o) (word .alone) _ _ (search states) (search states))
       (search states)
       (fork (onRequest c d o) (word .invokecalled) _ _
-      (plan-D f u v w a r d m (heard f m) (bit 8 f) asksTransfer enough) (search states))
+      (plan-D f u v w a r d m (heard f m) (interactionBy (bit 8 f)) asksTransfer enough) (search states))
   receives {c} {d} {o} (asked-A {u} {v} {w} {a} {r}) =
       by-kind m (K c d o waitSetupOf) (search states)
       (fork (onA c d o) (word .resultsetup) _ _
       (accepted-A f u v w a r d m (heard f m) givesTransfer)
       (split (onA c d o false) (word .alone) _ _ (search states) (search states)))
-      (split (P c d o) (word .failure) _ _ (search states)
+      (split (P c d o) (word .failure) _ _
+      (error-A f u v w a r d m (heard f m) (correctBy (listedOf (errorOf (m .component)))) (errorOf (m .component)) (m .cause))
       (split (P c d o) (word .rejection) _ _ (search states)
       (split (P c d o) (word .alone) _ _ (search states) (search states))))
       (search states)
@@ -379,14 +397,17 @@ module _ (f : ℕ) (m : Message) where
       by-kind m (K c d o originatingAnsweredIdleOf) (search states) (search states)
       (search states)
       (fork (onRequest c d o) (word .invokecalled) _ _
-      (plan-BC f u v w a r d m (heard f m) z (bit 8 f) asksTransfer enough (bit 8 (m .parts))) (search states))
+      (plan-BC f u v w a r d m (heard f m) z (interactionBy (bit 8 f)) asksTransfer enough (bit 8 (m .parts))) (search states))
   receives {c} {d} {o} (asked-B {u} {v} {w} {a} {r} z) =
       by-kind m (K c d o waitActiveOf) (search states) (search states)
       (search states)
       (split (P c d o) (word .invoke) _ _ (search states)
       (fork (onB c d o) (word .resultactive) _ _
       (accepted-B f u v w a r d m (heard f m) z givesTransfer)
-      (split (onB c d o false) (word .failure) _ _ (search states)
+      (split (onB c d o false) (word .failure) _ _
+      (error-B f u v w a r d m
+      (saying (word .resultsetup) false (word .invokecalled) (bit 8 (m .parts)) asksTransfer givesTransfer)
+      z (correctBy (listedOf (errorOf (m .component)))) (errorOf (m .component)))
       (split (onB c d o false) (word .rejection) _ _ (search states)
       (split (onB c d o false) (word .alone) _ _ (search states) (search states))))))
   receives {c} {d} {o} (turned z) =

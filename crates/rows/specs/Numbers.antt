@@ -95,6 +95,12 @@ noPart = 0
 abbrev pub transferPart : ℕ
 transferPart = 1
 
+abbrev pub acceptedPart : ℕ
+acceptedPart = 2
+
+abbrev pub asTransferPart : ℕ
+asTransferPart = 4
+
 abbrev pub agreedParts : ℕ
 agreedParts = 6
 

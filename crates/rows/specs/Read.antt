@@ -3,20 +3,35 @@
 use Prim.Native.Nat.{ℕ, _/_, _%_}
 use mathlib.Core.Bool.{Bool, true, false, _&&_, _||_, not}
 use lib.Dec.{eqb, leb}
-use Rattle.rows.specs.Numbers.{userNotSubscribed, rejectedByNetwork, rejectedByUser, notAvailable, interactionNotAllowed, basicServiceNotProvided, resourceUnavailable, userIgnored, alreadyRunning, facilityRejected, normalClearing, iam, anm, con, rel, callingReqSetup, callingReqActive, calledRequest, callingPart, calledPart, partialPart, durationPart}
+use Rattle.rows.specs.Numbers.{userNotSubscribed, rejectedByNetwork, rejectedByUser, notAvailable, interactionNotAllowed}
+use Rattle.rows.specs.Numbers.{basicServiceNotProvided, resourceUnavailable, userIgnored, alreadyRunning, normalClearing, iam, anm}
+use Rattle.rows.specs.Numbers.{con, rel, callingReqSetup, callingReqActive, calledRequest, callingPart, calledPart, acceptedPart}
+use Rattle.rows.specs.Numbers.{asTransferPart, partialPart, durationPart}
 use Rattle.rows.specs.declared.Asked.{Asked}
 use Rattle.rows.specs.declared.Component.{Component}
 use Rattle.rows.specs.declared.Component.the-variants.{Absent, Invoke, Result, Error, Reject, Unknown}
+use Rattle.rows.specs.declared.Correctness.{Correctness}
+use Rattle.rows.specs.declared.Correctness.the-variants.{Correct, Incorrect}
 use Rattle.rows.specs.declared.Cue.{Cue}
 use Rattle.rows.specs.declared.Event.{Event}
 use Rattle.rows.specs.declared.Event.the-variants.{Opening, Ask, Received, FromAccess, Expiry, Time}
+use Rattle.rows.specs.declared.Extent.{Extent}
+use Rattle.rows.specs.declared.Extent.the-variants.{Rest, Entire}
 use Rattle.rows.specs.declared.Flags.{Flags}
 use Rattle.rows.specs.declared.Heard.{Heard}
+use Rattle.rows.specs.declared.Interaction.{Interaction}
+use Rattle.rows.specs.declared.Interaction.the-variants.{Allowed, NotAllowed}
+use Rattle.rows.specs.declared.Judged.{Judged}
+use Rattle.rows.specs.declared.Judged.the-variants.{Passed, NotSubscribed, InteractionNotAllowed}
 use Rattle.rows.specs.declared.Kind.{Kind}
 use Rattle.rows.specs.declared.Kind.the-variants.{Opens, Asks, Iam, Answer, Rel, Fac, Tells, Expires, Passes}
 use Rattle.rows.specs.declared.Message.{Message}
+use Rattle.rows.specs.declared.Mode.{Mode}
+use Rattle.rows.specs.declared.Mode.the-variants.{NoTransfer, Transfer}
 use Rattle.rows.specs.declared.Number.{Number}
 use Rattle.rows.specs.declared.Reading.{Reading}
+use Rattle.rows.specs.declared.Service.{Service}
+use Rattle.rows.specs.declared.Service.the-variants.{OnRequest, Unconditional}
 use Rattle.rows.specs.declared.Stand.{Stand}
 use Rattle.rows.specs.declared.Terms.{Terms}
 use Rattle.rows.specs.declared.Told.{Told}
@@ -86,8 +101,20 @@ abbrev pub absent : Number
 absent = record { count = 0; value = 0 }
 
 abbrev pub plainOf : Kind → ℕ → ℕ → ℕ → ℕ → Reading
-plainOf k i e u s =
-    record { kind = k; item = i; flags = 0; component = Absent 0; parts = 0; error = e; cause = u; seconds = s; own = absent; calling = absent; called = absent }
+plainOf kind item error cause seconds =
+    record {
+      kind = kind;
+      item = item;
+      flags = 0;
+      component = Absent 0;
+      parts = 0;
+      error = error;
+      cause = cause;
+      seconds = seconds;
+      own = absent;
+      calling = absent;
+      called = absent;
+    }
 
 abbrev pub readMessage : Message → Reading
 readMessage m =
@@ -108,9 +135,33 @@ readMessage m =
 -- the access gives no cause: "16 if none"
 abbrev pub readOf : Event → Reading
 readOf (Opening r f n) =
-    record { kind = Opens; item = r; flags = f; component = Absent 0; parts = 0; error = 0; cause = 0; seconds = 0; own = n; calling = absent; called = absent }
+    record {
+      kind = Opens;
+      item = r;
+      flags = f;
+      component = Absent 0;
+      parts = 0;
+      error = 0;
+      cause = 0;
+      seconds = 0;
+      own = n;
+      calling = absent;
+      called = absent;
+    }
 readOf (Ask q n) =
-    record { kind = Asks; item = q; flags = 0; component = Absent 0; parts = 0; error = 0; cause = 0; seconds = 0; own = absent; calling = absent; called = n }
+    record {
+      kind = Asks;
+      item = q;
+      flags = 0;
+      component = Absent 0;
+      parts = 0;
+      error = 0;
+      cause = 0;
+      seconds = 0;
+      own = absent;
+      calling = absent;
+      called = n;
+    }
 readOf (Received m) = readMessage m
 readOf (FromAccess a n) = plainOf Tells a n normalClearing 0
 readOf Expiry = plainOf Expires 0 0 0 0
@@ -125,28 +176,53 @@ listedOf n =
     eqb n userNotSubscribed || (eqb n rejectedByNetwork || (eqb n rejectedByUser || (eqb n notAvailable || (eqb n interactionNotAllowed
     || (eqb n basicServiceNotProvided || (eqb n resourceUnavailable || (eqb n userIgnored || eqb n alreadyRunning)))))))
 
-abbrev pub orElse : Bool → ℕ → ℕ → ℕ
-orElse true n other = n
-orElse false n other = other
+-- ---- What the rows look at, in words
 
--- what the rows look at. error and reason: 001's "if this return error value is correct for REV, the same return error value
--- and cause value are sent .., if .. not correct for REV, .. "Not Available" and .. "29: facility rejected""
+abbrev pub interactionBy : Bool → Interaction
+interactionBy true = Allowed
+interactionBy false = NotAllowed
+
+-- 01: "not subscribed (judged only under flag 2), or interaction not allowed", in this order
+abbrev pub judgedBy : Bool → Bool → Judged
+judgedBy true allowed = NotSubscribed
+judgedBy false true = Passed
+judgedBy false false = InteractionNotAllowed
+
+abbrev pub modeBy : Bool → Mode
+modeBy true = Transfer
+modeBy false = NoTransfer
+
+-- "B and C differ at the originating exchange by "partial call only" in the invoke"
+abbrev pub extentBy : Bool → Extent
+extentBy true = Rest
+extentBy false = Entire
+
+abbrev pub serviceBy : Bool → Service
+serviceBy true = Unconditional
+serviceBy false = OnRequest
+
+abbrev pub correctBy : Bool → Correctness
+correctBy true = Correct
+correctBy false = Incorrect
+
+-- taken: "It asks for transfer, or accepts it, when its flag says so"; accepted: "No transfer where none was asked, even if the
+-- result claims it, or where Transfer Accepted is absent. It is sent only as parts 2 and 4 together"
 abbrev pub termsOf : Flags → Stand → Reading → Terms
-termsOf f at r =
+termsOf flags at r =
     record {
-      interaction = f .interaction;
-      transfer = f .transfer;
-      barred = f .option && not (f .subscribed);
-      unconditional = f .unconditional;
-      taken = f .transfer && lowest (r .parts);
-      enough = lowest (r .parts) || bit calledPart (r .parts);
-      accepted = f .transfer && (bit 2 (r .parts) && bit 4 (r .parts));
-      partial = bit partialPart (r .parts);
+      interaction = interactionBy (flags .interaction);
+      judged = judgedBy (flags .option && not (flags .subscribed)) (flags .interaction);
+      mode = modeBy (flags .transfer);
+      service = serviceBy (flags .unconditional);
+      taken = modeBy (flags .transfer && lowest (r .parts));
+      accepted = modeBy (flags .transfer && (bit acceptedPart (r .parts) && bit asTransferPart (r .parts)));
+      extent = extentBy (bit partialPart (r .parts));
+      agreed = modeBy (at .agreed);
+      asked = extentBy (at .rest);
+      called = lowest (r .parts) || bit calledPart (r .parts);
       calling = bit callingPart (r .parts);
       duration = bit durationPart (r .parts);
-      agreed = at .agreed;
-      rest = at .rest;
-      error = orElse (listedOf (r .error)) (r .error) notAvailable;
-      reason = orElse (listedOf (r .error)) (r .cause) facilityRejected;
+      correct = correctBy (listedOf (r .error));
+      error = r .error;
       cause = r .cause;
     }

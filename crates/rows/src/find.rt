@@ -1,7 +1,11 @@
 // FIND: the row for an event, by role, phase, REV state and what the event is. One table for each place that 01 allows;
 // none of them sees the call.
 ghost use mathlib.Core.Path.{_≡_};
-ghost use Rattle.rows.specs.Find.{unopenedOf, originatingNullOf, originatingSetupIdleOf, waitSetupOf, originatingWaitAnswerOf, originatingAnsweredIdleOf, waitActiveOf, activeOf, destinationNullOf, destinationSetupIdleOf, waitSetupConfOf, setupWaitCalledOf, destinationWaitAnswerOf, destinationAnsweredIdleOf, waitActiveConfOf, answeredWaitCalledOf, originatingSetupOf, originatingAnsweredOf, originatingOf, destinationSetupOf, destinationAnsweredOf, destinationOf, rowForOf};
+ghost use Rattle.rows.specs.Find.{unopenedOf, originatingNullOf, originatingSetupIdleOf, waitSetupOf, originatingWaitAnswerOf};
+ghost use Rattle.rows.specs.Find.{originatingAnsweredIdleOf, waitActiveOf, activeOf, destinationNullOf, destinationSetupIdleOf};
+ghost use Rattle.rows.specs.Find.{waitSetupConfOf, setupWaitCalledOf, destinationWaitAnswerOf, destinationAnsweredIdleOf};
+ghost use Rattle.rows.specs.Find.{waitActiveConfOf, answeredWaitCalledOf, originatingSetupOf, originatingAnsweredOf, originatingOf};
+ghost use Rattle.rows.specs.Find.{destinationSetupOf, destinationAnsweredOf, destinationOf, rowForOf};
 use crate::Cue;
 use crate::Kind;
 use crate::Phase;
@@ -68,7 +72,7 @@ pub fn originating_setup_idle(e: Cue) -> Row
         },
         Kind::Rel => Row::Released,
         Kind::Fac => if h.invokecalled {
-            Row::CallAsked
+            Row::UnconditionalAsked
         } else {
             Row::NoRow
         },
@@ -138,7 +142,7 @@ pub fn originating_wait_answer(e: Cue) -> Row
         Kind::Asks => Row::NoRow,
         Kind::Iam => Row::NoRow,
         Kind::Answer => if h.alone {
-            Row::CallAnswered
+            Row::UnconditionalAnswered
         } else {
             Row::NoRow
         },
@@ -368,13 +372,13 @@ pub fn setup_wait_called(e: Cue) -> Row
         Kind::Answer => Row::NoRow,
         Kind::Rel => Row::Released,
         Kind::Fac => if h.resultcalled {
-            Row::CallAccepted
+            Row::UnconditionalAccepted
         } else {
             if h.failure {
-                Row::CallFailed
+                Row::UnconditionalFailed
             } else {
                 if h.rejection {
-                    Row::CallFailed
+                    Row::UnconditionalFailed
                 } else {
                     Row::NoRow
                 }
@@ -385,7 +389,7 @@ pub fn setup_wait_called(e: Cue) -> Row
         } else {
             Row::NoRow
         },
-        Kind::Expires => Row::CallFailed,
+        Kind::Expires => Row::UnconditionalFailed,
         Kind::Passes => Row::TimeInSetup,
     }
 }
@@ -404,7 +408,7 @@ pub fn destination_wait_answer(e: Cue) -> Row
         Kind::Rel => Row::Released,
         Kind::Fac => Row::NoRow,
         Kind::Tells => if a.answers {
-            Row::CallConnected
+            Row::UnconditionalConnected
         } else {
             if a.clears {
                 Row::ClearedHere

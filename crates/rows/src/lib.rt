@@ -189,7 +189,7 @@ pub enum Row {
     // O5
     BasicAnswer,
     // O6, O7, O8
-    CallAsked,
+    UnconditionalAsked,
     // O9, O10
     SetupAccepted,
     // O11, O12
@@ -199,7 +199,7 @@ pub enum Row {
     // O14, O15
     SetupFailed,
     // O16, O17
-    CallAnswered,
+    UnconditionalAnswered,
     // O20, O21, O22
     AskActive,
     // O23 to O27
@@ -229,11 +229,11 @@ pub enum Row {
     // D17
     SetupExpired,
     // D18, D19
-    CallAccepted,
+    UnconditionalAccepted,
     // D20, D21
-    CallFailed,
+    UnconditionalFailed,
     // D22, D23
-    CallConnected,
+    UnconditionalConnected,
     // D26 to D29
     ActiveAsked,
     // D30 to D33
@@ -254,30 +254,66 @@ pub enum Row {
     CalledAccepted,
 }
 
+// Whether another service of the own user allows REV (3.6).
+pub enum Interaction {
+    Allowed,
+    NotAllowed,
+}
+
+// What the checks of a request say, in their order: the subscription, under its option; interaction.
+pub enum Judged {
+    Passed,
+    NotSubscribed,
+    InteractionNotAllowed,
+}
+
+// Transfer mode: the destination exchange charges.
+pub enum Mode {
+    NoTransfer,
+    Transfer,
+}
+
+// How much of an answered call: the rest of it, case B; the entire call, case C.
+pub enum Extent {
+    Rest,
+    Entire,
+}
+
+// REV when it is asked for; or for every call, case D.
+pub enum Service {
+    OnRequest,
+    Unconditional,
+}
+
+// 001: "this return error value is correct for REV", or not.
+pub enum Correctness {
+    Correct,
+    Incorrect,
+}
+
 // What a row may look at besides its state: flags, parts, what is pending, an error.
 pub struct Terms {
-    // the flags: interaction allowed; transfer; not subscribed, under the option; case D
-    pub interaction: bool,
-    pub transfer: bool,
-    pub barred: bool,
-    pub unconditional: bool,
+    // the flags: interaction; subscription, under its option, and then interaction; transfer mode; case D
+    pub interaction: Interaction,
+    pub judged: Judged,
+    pub mode: Mode,
+    pub service: Service,
     // an invoke asks for transfer, and it is taken here
-    pub taken: bool,
-    // an invoke has the called number, or asks for transfer
-    pub enough: bool,
+    pub taken: Mode,
     // a result accepts the transfer that was asked for here
-    pub accepted: bool,
-    // parts that are there
-    pub partial: bool,
+    pub accepted: Mode,
+    // an invoke is for a part of the call alone, or not
+    pub extent: Extent,
+    // pending: transfer was agreed; what was asked for
+    pub agreed: Mode,
+    pub asked: Extent,
+    // parts that are there: the called number, or transfer requested in its place; the calling number; the Duration
+    pub called: bool,
     pub calling: bool,
     pub duration: bool,
-    // pending: transfer was agreed; the rest of the call alone was asked for
-    pub agreed: bool,
-    pub rest: bool,
-    // the error to pass on: the same where it is REV's, else Not Available; and the cause to pass on with it
+    // the error received, and whether it is REV's; the cause received
+    pub correct: Correctness,
     pub error: u8,
-    pub reason: u8,
-    // the cause received
     pub cause: u8,
 }
 

@@ -62,6 +62,10 @@ pub const BARE: u8 = 0;
 
 pub const TRANSFER: u8 = 1;
 
+pub const ACCEPTED: u8 = 2;
+
+pub const AS_TRANSFER: u8 = 4;
+
 pub const AGREED: u8 = 6;
 
 pub const OWN_CALLED: u8 = 32;

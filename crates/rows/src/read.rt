@@ -1,28 +1,35 @@
 // What an event says: in one form for all kinds, to the tables that find its row, and to the rows.
 ghost use mathlib.Core.Path.{_≡_};
-ghost use Rattle.rows.specs.Read.{bit, flagsOf, askedOf, toldOf, heardBy, heardOf, kindBy, kindOf, errorOf, plainOf, readMessage, readOf, cueOf, listedOf, orElse, termsOf};
+ghost use Rattle.rows.specs.Read.{bit, flagsOf, askedOf, toldOf, heardBy, heardOf, kindBy, kindOf, errorOf, plainOf, readMessage};
+ghost use Rattle.rows.specs.Read.{readOf, cueOf, listedOf, interactionBy, judgedBy, modeBy, extentBy, serviceBy, correctBy, termsOf};
 use crate::ABSENT;
 use crate::Asked;
 use crate::Component;
+use crate::Correctness;
 use crate::Cue;
 use crate::Event;
+use crate::Extent;
 use crate::Flags;
 use crate::Heard;
+use crate::Interaction;
+use crate::Judged;
 use crate::Kind;
 use crate::Message;
+use crate::Mode;
 use crate::Reading;
+use crate::Service;
 use crate::Stand;
 use crate::Terms;
 use crate::Told;
+use crate::numbers::ACCEPTED;
 use crate::numbers::ANM;
+use crate::numbers::AS_TRANSFER;
 use crate::numbers::CALLED_REQUEST;
 use crate::numbers::CALLING_REQ_ACTIVE;
 use crate::numbers::CALLING_REQ_SETUP;
 use crate::numbers::CON;
-use crate::numbers::FACILITY_REJECTED;
 use crate::numbers::IAM;
 use crate::numbers::NORMAL_CLEARING;
-use crate::numbers::NOT_AVAILABLE;
 use crate::numbers::REL;
 use crate::numbers::REV_ERRORS;
 
@@ -229,34 +236,102 @@ pub fn listed(n: u8) -> bool
     (n <= 15) & ((REV_ERRORS >> (n % 16)) % 2 == 1)
 }
 
-fn or_else(same: bool, n: u8, other: u8) -> u8
-    ensures { λ out. ⌜ out ≡ orElse same n other ⌝ }
+fn interaction_by(allowed: bool) -> Interaction
+    ensures { λ out. ⌜ out ≡ interactionBy allowed ⌝ }
 {
-    if same { n } else { other }
+    if allowed {
+        Interaction::Allowed
+    } else {
+        Interaction::NotAllowed
+    }
+}
+
+// The subscription first, then interaction.
+fn judged_by(barred: bool, allowed: bool) -> Judged
+    ensures { λ out. ⌜ out ≡ judgedBy barred allowed ⌝ }
+{
+    if barred {
+        Judged::NotSubscribed
+    } else {
+        if allowed {
+            Judged::Passed
+        } else {
+            Judged::InteractionNotAllowed
+        }
+    }
+}
+
+fn mode_by(transfer: bool) -> Mode
+    ensures { λ out. ⌜ out ≡ modeBy transfer ⌝ }
+{
+    if transfer {
+        Mode::Transfer
+    } else {
+        Mode::NoTransfer
+    }
+}
+
+fn extent_by(partial: bool) -> Extent
+    ensures { λ out. ⌜ out ≡ extentBy partial ⌝ }
+{
+    if partial {
+        Extent::Rest
+    } else {
+        Extent::Entire
+    }
+}
+
+fn service_by(unconditional: bool) -> Service
+    ensures { λ out. ⌜ out ≡ serviceBy unconditional ⌝ }
+{
+    if unconditional {
+        Service::Unconditional
+    } else {
+        Service::OnRequest
+    }
+}
+
+fn correct_by(listed: bool) -> Correctness
+    ensures { λ out. ⌜ out ≡ correctBy listed ⌝ }
+{
+    if listed {
+        Correctness::Correct
+    } else {
+        Correctness::Incorrect
+    }
 }
 
 pub fn terms_of(f: Flags, at: Stand, r: Reading) -> Terms
     ensures { λ out. ⌜ out ≡ termsOf f at r ⌝ }
 {
-    let same = listed(r.error);
-    let error = or_else(same, r.error, NOT_AVAILABLE);
-    let reason = or_else(same, r.cause, FACILITY_REJECTED);
     let parts = r.parts;
+    let interaction = interaction_by(f.interaction);
+    let judged = judged_by(f.option & !f.subscribed, f.interaction);
+    let mode = mode_by(f.transfer);
+    let service = service_by(f.unconditional);
+    let taken = mode_by(f.transfer & (parts % 2 == 1));
+    let accepted = mode_by(
+        f.transfer & (((parts / ACCEPTED) % 2 == 1) & ((parts / AS_TRANSFER) % 2 == 1)),
+    );
+    let extent = extent_by((parts / 8) % 2 == 1);
+    let agreed = mode_by(at.agreed);
+    let asked = extent_by(at.rest);
+    let correct = correct_by(listed(r.error));
     Terms {
-        interaction: f.interaction,
-        transfer: f.transfer,
-        barred: f.option & !f.subscribed,
-        unconditional: f.unconditional,
-        taken: f.transfer & (parts % 2 == 1),
-        enough: (parts % 2 == 1) | ((parts / 32) % 2 == 1),
-        accepted: f.transfer & (((parts / 2) % 2 == 1) & ((parts / 4) % 2 == 1)),
-        partial: (parts / 8) % 2 == 1,
+        interaction: interaction,
+        judged: judged,
+        mode: mode,
+        service: service,
+        taken: taken,
+        accepted: accepted,
+        extent: extent,
+        agreed: agreed,
+        asked: asked,
+        called: (parts % 2 == 1) | ((parts / 32) % 2 == 1),
         calling: (parts / 16) % 2 == 1,
         duration: (parts / 64) % 2 == 1,
-        agreed: at.agreed,
-        rest: at.rest,
-        error: error,
-        reason: reason,
+        correct: correct,
+        error: r.error,
         cause: r.cause,
     }
 }

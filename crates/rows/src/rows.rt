@@ -1,12 +1,25 @@
 // PLAN: what each row does, in the order of its sentence. A row sees only the terms that it names, and never the call.
 ghost use mathlib.Core.Path.{_≡_};
-ghost use Rattle.rows.specs.Rows.{refuses, quiet, accessError, farError, sends, acts, turns, clears, stops, accessRelease, farRelease, basicRequest, basicAnswer, answeredHere, callFailed, askSetup, callAsked, accepted, askActive, calledAsked, plainIam, setupAsked, setupConfirmed, callAccepted, callConnected, activeAsked, askCalled, activeConfirmed, calledAccepted, planOf};
+ghost use Rattle.rows.specs.Rows.{refuses, needs, quiet, accessError, farError, sends, acts, turns, clears, stops, accessRelease};
+ghost use Rattle.rows.specs.Rows.{farRelease};
+ghost use Rattle.rows.specs.Rows.{basicRequest, basicAnswer, answeredHere, askSetup, unconditionalAsked, acceptedAtAnswer};
+ghost use Rattle.rows.specs.Rows.{setupError, askActive};
+ghost use Rattle.rows.specs.Rows.{calledAsked, acceptedInCall, waitError, unconditionalFailed, plainIam, setupAsked, setupConfirmed};
+ghost use Rattle.rows.specs.Rows.{setupRefused};
+ghost use Rattle.rows.specs.Rows.{unconditionalAccepted, unconditionalConnected, activeAsked, askCalled, activeConfirmed};
+ghost use Rattle.rows.specs.Rows.{activeRefused, calledAccepted, planOf};
 use crate::Act;
 use crate::Component;
+use crate::Correctness;
+use crate::Extent;
+use crate::Interaction;
+use crate::Judged;
+use crate::Mode;
 use crate::Next;
 use crate::Plan;
 use crate::Register;
 use crate::Row;
+use crate::Service;
 use crate::Terms;
 use crate::numbers::AGREED;
 use crate::numbers::AGREED_CALLING;
@@ -54,6 +67,13 @@ fn refuses(number: u8) -> Plan
         error: 0,
         cause: 0,
     }
+}
+
+// 01, number 4: a part that the row needs is there, or not.
+fn needs(there: bool, plan: Plan) -> Plan
+    ensures { λ out. ⌜ out ≡ needs there plan ⌝ }
+{
+    if there { plan } else { refuses(PART_ABSENT) }
 }
 
 // No action.
@@ -280,8 +300,8 @@ fn answered_here() -> Plan
 }
 
 // D2, D20, D21: 3.5.2.5.5.2, first sentence; i, ii.
-fn call_failed() -> Plan
-    ensures { λ out. ⌜ out ≡ callFailed ⌝ }
+fn unconditional_failed() -> Plan
+    ensures { λ out. ⌜ out ≡ unconditionalFailed ⌝ }
 {
     clears(
         Act::SendRel,
@@ -293,156 +313,156 @@ fn call_failed() -> Plan
     )
 }
 
-// ---- The rows that choose.
+// ---- The rows that choose. What they look at comes in one order: what was judged, how much of the call, transfer or not, which
+// needed parts are there.
 
-// O2 to O4: 3.5.2.1.1.1 i, ii; 3.5.2.1.1.2, first sentence.
-fn ask_setup(interaction: bool, transfer: bool) -> Plan
-    ensures { λ out. ⌜ out ≡ askSetup interaction transfer ⌝ }
+// Case A asked for: 3.5.2.1.1.1 i, ii; 3.5.2.1.1.2, first sentence.
+fn ask_setup(interaction: Interaction, mode: Mode) -> Plan
+    ensures { λ out. ⌜ out ≡ askSetup interaction mode ⌝ }
 {
-    if interaction {
-        if transfer {
-            sends(
-                Next::ToWaitSetup,
-                Change::Keep,
-                Register::CalledNumber,
-                Act::SendIam,
-                Component::Invoke(CALLING_REQ_SETUP),
-                TRANSFER_CALLING,
-            )
-        } else {
-            sends(
+    match interaction {
+        // O2
+        Interaction::NotAllowed => access_release(
+            Act::Nothing,
+            INTERACTION_NOT_ALLOWED,
+            FACILITY_REJECTED,
+        ),
+        Interaction::Allowed => match mode {
+            // O3
+            Mode::NoTransfer => sends(
                 Next::ToWaitSetup,
                 Change::Keep,
                 Register::CalledNumber,
                 Act::SendIam,
                 Component::Invoke(CALLING_REQ_SETUP),
                 BARE,
-            )
-        }
-    } else {
-        access_release(Act::Nothing, INTERACTION_NOT_ALLOWED, FACILITY_REJECTED)
+            ),
+            // O4
+            Mode::Transfer => sends(
+                Next::ToWaitSetup,
+                Change::Keep,
+                Register::CalledNumber,
+                Act::SendIam,
+                Component::Invoke(CALLING_REQ_SETUP),
+                TRANSFER_CALLING,
+            ),
+        },
     }
 }
 
-// O6 to O8: 3.5.2.5.1.1 i, ii, up to the answer; 3.5.2.5.1.2, first sentence.
-fn call_asked(interaction: bool, taken: bool, enough: bool) -> Plan
-    ensures { λ out. ⌜ out ≡ callAsked interaction taken enough ⌝ }
+// Case D asked for by the called user: 3.5.2.5.1.1 i, ii, up to the answer; 3.5.2.5.1.2, first sentence. Charging starts at the answer.
+fn unconditional_asked(interaction: Interaction, mode: Mode, called: bool) -> Plan
+    ensures { λ out. ⌜ out ≡ unconditionalAsked interaction mode called ⌝ }
 {
-    if interaction {
-        if taken {
-            sends(
+    match interaction {
+        // O6
+        Interaction::NotAllowed => far_error(Next::Stay, INTERACTION_NOT_ALLOWED),
+        Interaction::Allowed => match mode {
+            // O7
+            Mode::NoTransfer => needs(
+                called,
+                sends(
+                    Next::ToWaitAnswer,
+                    Change::Keep,
+                    Register::CalledNumber,
+                    Act::SendFac,
+                    Component::Result(CALLED_REQUEST),
+                    BARE,
+                ),
+            ),
+            // O8
+            Mode::Transfer => sends(
                 Next::ToWaitAnswerTransfer,
                 Change::Keep,
                 Register::AsHeld,
                 Act::SendFac,
                 Component::Result(CALLED_REQUEST),
                 AGREED_CALLING,
-            )
-        } else {
-            if enough {
-                sends(
-                    Next::ToWaitAnswer,
-                    Change::Keep, // charging starts at the answer
-                    Register::CalledNumber,
-                    Act::SendFac,
-                    Component::Result(CALLED_REQUEST),
-                    BARE,
-                )
-            } else {
-                refuses(PART_ABSENT)
-            }
-        }
-    } else {
-        far_error(Next::Stay, INTERACTION_NOT_ALLOWED)
+            ),
+        },
     }
 }
 
-// O9, O10, O16, O17, O28, O29: 3.5.2.1.1.1 a, b; 3.5.2.5.1.1 i, ii, from the answer; 3.5.2.2.1.1 a, b.
-fn accepted(transfer: bool) -> Plan
-    ensures { λ out. ⌜ out ≡ accepted transfer ⌝ }
+// Cases A and D take effect with the answer: 3.5.2.1.1.1 a, b; 3.5.2.5.1.1 i, ii, from the answer.
+fn accepted_at_answer(mode: Mode) -> Plan
+    ensures { λ out. ⌜ out ≡ acceptedAtAnswer mode ⌝ }
 {
-    if transfer {
-        acts(
-            Next::ToActive,
-            Change::FarPays,
-            Register::AsHeld,
-            Act::NotifyAccepted,
-            Act::Stop,
-            Act::Nothing,
-        )
-    } else {
-        acts(
+    match mode {
+        // O9, O16
+        Mode::NoTransfer => acts(
             Next::ToActive,
             Change::CalledPays,
             Register::AsHeld,
             Act::NotifyAccepted,
-            Act::Stop,
             Act::ChargeCalled,
-        )
+            Act::Nothing,
+        ),
+        // O10, O17
+        Mode::Transfer => acts(
+            Next::ToActive,
+            Change::FarPays,
+            Register::AsHeld,
+            Act::NotifyAccepted,
+            Act::Nothing,
+            Act::Nothing,
+        ),
     }
 }
 
-// O20 to O22: 3.5.2.2.1.1 i, ii; 3.5.2.2.1.2, first sentence.
-fn ask_active(interaction: bool, transfer: bool) -> Plan
-    ensures { λ out. ⌜ out ≡ askActive interaction transfer ⌝ }
+// 3.5.2.1.1.2 i: the same error and cause, or Not Available and 29.
+fn setup_error(correct: Correctness, error: u8, cause: u8) -> Plan
+    ensures { λ out. ⌜ out ≡ setupError correct error cause ⌝ }
 {
-    if interaction {
-        if transfer {
-            sends(
-                Next::ToWaitActive,
-                Change::Keep,
-                Register::AsHeld,
-                Act::SendFac,
-                Component::Invoke(CALLING_REQ_ACTIVE),
-                TRANSFER_CALLING,
-            )
-        } else {
-            sends(
+    match correct {
+        // O11
+        Correctness::Correct => access_release(Act::Nothing, error, cause),
+        // O12
+        Correctness::Incorrect => access_release(Act::Nothing, NOT_AVAILABLE, FACILITY_REJECTED),
+    }
+}
+
+// Case B asked for: 3.5.2.2.1.1 i, ii; 3.5.2.2.1.2, first sentence.
+fn ask_active(interaction: Interaction, mode: Mode) -> Plan
+    ensures { λ out. ⌜ out ≡ askActive interaction mode ⌝ }
+{
+    match interaction {
+        // O20
+        Interaction::NotAllowed => access_error(Next::Stay, INTERACTION_NOT_ALLOWED),
+        Interaction::Allowed => match mode {
+            // O21
+            Mode::NoTransfer => sends(
                 Next::ToWaitActive,
                 Change::Keep,
                 Register::AsHeld,
                 Act::SendFac,
                 Component::Invoke(CALLING_REQ_ACTIVE),
                 BARE,
-            )
-        }
-    } else {
-        access_error(Next::Stay, INTERACTION_NOT_ALLOWED)
+            ),
+            // O22
+            Mode::Transfer => sends(
+                Next::ToWaitActive,
+                Change::Keep,
+                Register::AsHeld,
+                Act::SendFac,
+                Component::Invoke(CALLING_REQ_ACTIVE),
+                TRANSFER_CALLING,
+            ),
+        },
     }
 }
 
-// O23 to O27: 3.5.2.3.1.1 and 3.5.2.4.1.1 i, ii; 3.5.2.3.1.2 and 3.5.2.4.1.2, first sentence.
-fn called_asked(interaction: bool, taken: bool, enough: bool, partial: bool) -> Plan
-    ensures { λ out. ⌜ out ≡ calledAsked interaction taken enough partial ⌝ }
+// Case B or C asked for by the called user: 3.5.2.3.1.1 and 3.5.2.4.1.1 i, ii; 3.5.2.3.1.2 and 3.5.2.4.1.2, first sentence.
+fn called_asked(interaction: Interaction, extent: Extent, mode: Mode, called: bool) -> Plan
+    ensures { λ out. ⌜ out ≡ calledAsked interaction extent mode called ⌝ }
 {
-    if interaction {
-        if taken {
-            if partial {
-                turns(
-                    Change::FarPays,
-                    Register::AsHeld,
-                    Act::SendFac,
-                    Act::NotifyAccepted,
-                    Act::Stop,
-                    Act::Nothing,
-                    Component::Result(CALLED_REQUEST),
-                    AGREED_CALLING,
-                )
-            } else {
-                turns(
-                    Change::EntireToFar,
-                    Register::AsHeld,
-                    Act::SendFac,
-                    Act::NotifyAccepted,
-                    Act::Stop,
-                    Act::Nothing,
-                    Component::Result(CALLED_REQUEST),
-                    AGREED_CALLING_DURATION,
-                )
-            }
-        } else {
-            if enough {
-                if partial {
+    match interaction {
+        // O23
+        Interaction::NotAllowed => far_error(Next::Stay, INTERACTION_NOT_ALLOWED),
+        Interaction::Allowed => match extent {
+            Extent::Rest => match mode {
+                // O24
+                Mode::NoTransfer => needs(
+                    called,
                     turns(
                         Change::CalledPays,
                         Register::CalledNumber,
@@ -452,8 +472,24 @@ fn called_asked(interaction: bool, taken: bool, enough: bool, partial: bool) -> 
                         Act::ChargeCalled,
                         Component::Result(CALLED_REQUEST),
                         BARE,
-                    )
-                } else {
+                    ),
+                ),
+                // O25
+                Mode::Transfer => turns(
+                    Change::FarPays,
+                    Register::AsHeld,
+                    Act::SendFac,
+                    Act::NotifyAccepted,
+                    Act::Stop,
+                    Act::Nothing,
+                    Component::Result(CALLED_REQUEST),
+                    AGREED_CALLING,
+                ),
+            },
+            Extent::Entire => match mode {
+                // O26
+                Mode::NoTransfer => needs(
+                    called,
                     turns(
                         Change::EntireToCalled,
                         Register::CalledNumber,
@@ -463,100 +499,154 @@ fn called_asked(interaction: bool, taken: bool, enough: bool, partial: bool) -> 
                         Act::ChargeCalled,
                         Component::Result(CALLED_REQUEST),
                         BARE,
-                    )
-                }
-            } else {
-                refuses(PART_ABSENT)
-            }
-        }
-    } else {
-        far_error(Next::Stay, INTERACTION_NOT_ALLOWED)
+                    ),
+                ),
+                // O27
+                Mode::Transfer => turns(
+                    Change::EntireToFar,
+                    Register::AsHeld,
+                    Act::SendFac,
+                    Act::NotifyAccepted,
+                    Act::Stop,
+                    Act::Nothing,
+                    Component::Result(CALLED_REQUEST),
+                    AGREED_CALLING_DURATION,
+                ),
+            },
+        },
     }
 }
 
-// D1 to D4: 01; 3.5.2.5.5.1 i, ii; 3.5.2.5.5.2, first sentence.
-fn plain_iam(unconditional: bool, interaction: bool, transfer: bool) -> Plan
-    ensures { λ out. ⌜ out ≡ plainIam unconditional interaction transfer ⌝ }
+// Case B takes effect in the answered call: 3.5.2.2.1.1 a, b.
+fn accepted_in_call(mode: Mode) -> Plan
+    ensures { λ out. ⌜ out ≡ acceptedInCall mode ⌝ }
 {
-    if unconditional {
-        if interaction {
-            if transfer {
-                sends(
-                    Next::ToSetupWaitCalled,
-                    Change::Keep,
-                    Register::AsHeld,
-                    Act::SendFac,
-                    Component::Invoke(CALLED_REQUEST),
-                    TRANSFER,
-                )
-            } else {
-                sends(
-                    Next::ToSetupWaitCalled,
-                    Change::Keep,
-                    Register::AsHeld,
-                    Act::SendFac,
-                    Component::Invoke(CALLED_REQUEST),
-                    OWN_CALLED,
-                )
-            }
-        } else {
-            call_failed()
-        }
-    } else {
-        acts(
+    match mode {
+        // O28
+        Mode::NoTransfer => acts(
+            Next::ToActive,
+            Change::CalledPays,
+            Register::AsHeld,
+            Act::NotifyAccepted,
+            Act::Stop,
+            Act::ChargeCalled,
+        ),
+        // O29
+        Mode::Transfer => acts(
+            Next::ToActive,
+            Change::FarPays,
+            Register::AsHeld,
+            Act::NotifyAccepted,
+            Act::Stop,
+            Act::Nothing,
+        ),
+    }
+}
+
+// 3.5.2.2.1.2 i, 3.5.2.3.5.2 a, 3.5.2.4.5.2 a: the same error, or Not Available.
+fn wait_error(correct: Correctness, error: u8) -> Plan
+    ensures { λ out. ⌜ out ≡ waitError correct error ⌝ }
+{
+    match correct {
+        // O30, D48
+        Correctness::Correct => access_error(Next::ToAnswered, error),
+        // O31, D49
+        Correctness::Incorrect => access_error(Next::ToAnswered, NOT_AVAILABLE),
+    }
+}
+
+// An IAM with no component, 01; case D: 3.5.2.5.5.1 i, ii; 3.5.2.5.5.2, first sentence.
+fn plain_iam(service: Service, interaction: Interaction, mode: Mode) -> Plan
+    ensures { λ out. ⌜ out ≡ plainIam service interaction mode ⌝ }
+{
+    match service {
+        // D1
+        Service::OnRequest => acts(
             Next::ToSetup,
             Change::Keep,
             Register::AsHeld,
             Act::AccessSetup,
             Act::Nothing,
             Act::Nothing,
-        )
+        ),
+        Service::Unconditional => match interaction {
+            // D2
+            Interaction::NotAllowed => unconditional_failed(),
+            Interaction::Allowed => match mode {
+                // D3
+                Mode::NoTransfer => sends(
+                    Next::ToSetupWaitCalled,
+                    Change::Keep,
+                    Register::AsHeld,
+                    Act::SendFac,
+                    Component::Invoke(CALLED_REQUEST),
+                    OWN_CALLED,
+                ),
+                // D4
+                Mode::Transfer => sends(
+                    Next::ToSetupWaitCalled,
+                    Change::Keep,
+                    Register::AsHeld,
+                    Act::SendFac,
+                    Component::Invoke(CALLED_REQUEST),
+                    TRANSFER,
+                ),
+            },
+        },
     }
 }
 
-// D5 to D8: 3.5.2.1.5.1 i, ii, iii; 3.5.2.1.5.2, sentences 1 to 6.
-fn setup_asked(barred: bool, interaction: bool, taken: bool, calling: bool) -> Plan
-    ensures { λ out. ⌜ out ≡ setupAsked barred interaction taken calling ⌝ }
+// Case A asked for by the caller: 3.5.2.1.5.1 i, ii, iii; 3.5.2.1.5.2, sentences 1 to 6.
+fn setup_asked(judged: Judged, mode: Mode, calling: bool) -> Plan
+    ensures { λ out. ⌜ out ≡ setupAsked judged mode calling ⌝ }
 {
-    if barred {
-        far_release(USER_NOT_SUBSCRIBED, FACILITY_REJECTED)
-    } else {
-        if interaction {
-            if taken {
-                if calling {
-                    acts(
-                        Next::ToWaitSetupConfTransfer,
-                        Change::Keep,
-                        Register::CallingNumber,
-                        Act::AccessAsk,
-                        Act::Nothing,
-                        Act::Nothing,
-                    )
-                } else {
-                    refuses(PART_ABSENT)
-                }
-            } else {
+    match judged {
+        // D5
+        Judged::NotSubscribed => far_release(USER_NOT_SUBSCRIBED, FACILITY_REJECTED),
+        // D6
+        Judged::InteractionNotAllowed => far_release(INTERACTION_NOT_ALLOWED, FACILITY_REJECTED),
+        Judged::Passed => match mode {
+            // D7
+            Mode::NoTransfer => acts(
+                Next::ToWaitSetupConf,
+                Change::Keep,
+                Register::AsHeld,
+                Act::AccessAsk,
+                Act::Nothing,
+                Act::Nothing,
+            ),
+            // D8
+            Mode::Transfer => needs(
+                calling,
                 acts(
-                    Next::ToWaitSetupConf,
+                    Next::ToWaitSetupConfTransfer,
                     Change::Keep,
-                    Register::AsHeld,
+                    Register::CallingNumber,
                     Act::AccessAsk,
                     Act::Nothing,
                     Act::Nothing,
-                )
-            }
-        } else {
-            far_release(INTERACTION_NOT_ALLOWED, FACILITY_REJECTED)
-        }
+                ),
+            ),
+        },
     }
 }
 
-// D10, D11: 3.5.2.1.5.1 a, b.
-fn setup_confirmed(agreed: bool) -> Plan
-    ensures { λ out. ⌜ out ≡ setupConfirmed agreed ⌝ }
+// Case A accepted by the own user: 3.5.2.1.5.1 a, b.
+fn setup_confirmed(mode: Mode) -> Plan
+    ensures { λ out. ⌜ out ≡ setupConfirmed mode ⌝ }
 {
-    if agreed {
-        turns(
+    match mode {
+        // D10
+        Mode::NoTransfer => sends(
+            Next::ToActive,
+            Change::FarPays,
+            Register::AsHeld,
+            Act::SendAnm,
+            Component::Result(CALLING_REQ_SETUP),
+            OWN_CALLED,
+        ),
+        // D11
+        Mode::Transfer => turns(
             Change::CalledPays,
             Register::AsHeld,
             Act::ChargeCalled,
@@ -565,51 +655,64 @@ fn setup_confirmed(agreed: bool) -> Plan
             Act::Nothing,
             Component::Result(CALLING_REQ_SETUP),
             AGREED,
-        )
-    } else {
-        sends(
-            Next::ToActive,
-            Change::FarPays,
-            Register::AsHeld,
-            Act::SendAnm,
-            Component::Result(CALLING_REQ_SETUP),
-            OWN_CALLED,
-        )
+        ),
     }
 }
 
-// D18, D19: 3.5.2.5.5.1, "When the state is wait for REVCalledRequest response" a, b.
-fn call_accepted(accepted: bool, calling: bool) -> Plan
-    ensures { λ out. ⌜ out ≡ callAccepted accepted calling ⌝ }
+// 3.5.2.1.5.2 i: the same error and cause (16 if none, 01), or Not Available and 29.
+fn setup_refused(correct: Correctness, error: u8, cause: u8) -> Plan
+    ensures { λ out. ⌜ out ≡ setupRefused correct error cause ⌝ }
 {
-    if accepted {
-        if calling {
-            quiet(
-                Next::ToWaitAnswerTransfer,
-                Change::Keep,
-                Register::CallingNumber,
-            )
-        } else {
-            refuses(PART_ABSENT)
-        }
-    } else {
-        acts(
+    match correct {
+        // D12
+        Correctness::Correct => far_release(error, cause),
+        // D13
+        Correctness::Incorrect => far_release(NOT_AVAILABLE, FACILITY_REJECTED),
+    }
+}
+
+// Case D accepted: 3.5.2.5.5.1, "When the state is wait for REVCalledRequest response" a, b.
+fn unconditional_accepted(mode: Mode, calling: bool) -> Plan
+    ensures { λ out. ⌜ out ≡ unconditionalAccepted mode calling ⌝ }
+{
+    match mode {
+        // D18
+        Mode::NoTransfer => acts(
             Next::ToWaitAnswer,
             Change::Keep,
             Register::AsHeld,
             Act::NotifyAccepted,
             Act::Nothing,
             Act::Nothing,
-        )
+        ),
+        // D19
+        Mode::Transfer => needs(
+            calling,
+            quiet(
+                Next::ToWaitAnswerTransfer,
+                Change::Keep,
+                Register::CallingNumber,
+            ),
+        ),
     }
 }
 
-// D22, D23: 3.5.2.5.5.1 a, b, at the answer; 01 "in WAIT-ANSWER too".
-fn call_connected(agreed: bool) -> Plan
-    ensures { λ out. ⌜ out ≡ callConnected agreed ⌝ }
+// Case D takes effect with the answer: 3.5.2.5.5.1 a, b; 01, "in WAIT-ANSWER too".
+fn unconditional_connected(mode: Mode) -> Plan
+    ensures { λ out. ⌜ out ≡ unconditionalConnected mode ⌝ }
 {
-    if agreed {
-        turns(
+    match mode {
+        // D22
+        Mode::NoTransfer => sends(
+            Next::ToActive,
+            Change::FarPays,
+            Register::AsHeld,
+            Act::SendAnm,
+            Component::Absent(0),
+            BARE,
+        ),
+        // D23
+        Mode::Transfer => turns(
             Change::CalledPays,
             Register::AsHeld,
             Act::ChargeCalled,
@@ -618,117 +721,115 @@ fn call_connected(agreed: bool) -> Plan
             Act::Nothing,
             Component::Absent(0),
             BARE,
-        )
-    } else {
-        sends(
-            Next::ToActive,
-            Change::FarPays,
-            Register::AsHeld,
-            Act::SendAnm,
-            Component::Absent(0),
-            BARE,
-        )
+        ),
     }
 }
 
-// D26 to D29: 3.5.2.2.5.1 i, ii, iii; 3.5.2.2.5.2, first two sentences.
-fn active_asked(barred: bool, interaction: bool, taken: bool, calling: bool) -> Plan
-    ensures { λ out. ⌜ out ≡ activeAsked barred interaction taken calling ⌝ }
+// Case B asked for by the caller: 3.5.2.2.5.1 i, ii, iii; 3.5.2.2.5.2, first two sentences.
+fn active_asked(judged: Judged, mode: Mode, calling: bool) -> Plan
+    ensures { λ out. ⌜ out ≡ activeAsked judged mode calling ⌝ }
 {
-    if barred {
-        far_error(Next::Stay, USER_NOT_SUBSCRIBED)
-    } else {
-        if interaction {
-            if taken {
-                if calling {
-                    acts(
-                        Next::ToWaitActiveConfTransfer,
-                        Change::Keep,
-                        Register::CallingNumber,
-                        Act::AccessAsk,
-                        Act::Nothing,
-                        Act::Nothing,
-                    )
-                } else {
-                    refuses(PART_ABSENT)
-                }
-            } else {
+    match judged {
+        // D26
+        Judged::NotSubscribed => far_error(Next::Stay, USER_NOT_SUBSCRIBED),
+        // D27
+        Judged::InteractionNotAllowed => far_error(Next::Stay, INTERACTION_NOT_ALLOWED),
+        Judged::Passed => match mode {
+            // D28
+            Mode::NoTransfer => acts(
+                Next::ToWaitActiveConf,
+                Change::Keep,
+                Register::AsHeld,
+                Act::AccessAsk,
+                Act::Nothing,
+                Act::Nothing,
+            ),
+            // D29
+            Mode::Transfer => needs(
+                calling,
                 acts(
-                    Next::ToWaitActiveConf,
+                    Next::ToWaitActiveConfTransfer,
                     Change::Keep,
-                    Register::AsHeld,
+                    Register::CallingNumber,
                     Act::AccessAsk,
                     Act::Nothing,
                     Act::Nothing,
-                )
-            }
-        } else {
-            far_error(Next::Stay, INTERACTION_NOT_ALLOWED)
-        }
+                ),
+            ),
+        },
     }
 }
 
-// D30 to D35: 3.5.2.3.5.1 and 3.5.2.4.5.1 i, ii, iii; 3.5.2.3.5.2 and 3.5.2.4.5.2 i, ii. rest: case B.
-fn ask_called(rest: bool, barred: bool, interaction: bool, transfer: bool) -> Plan
-    ensures { λ out. ⌜ out ≡ askCalled rest barred interaction transfer ⌝ }
+// Case B or C asked for by the own user: 3.5.2.3.5.1 and 3.5.2.4.5.1 i, ii, iii; 3.5.2.3.5.2 and 3.5.2.4.5.2 i, ii.
+fn ask_called(judged: Judged, extent: Extent, mode: Mode) -> Plan
+    ensures { λ out. ⌜ out ≡ askCalled judged extent mode ⌝ }
 {
-    if barred {
-        access_error(Next::Stay, USER_NOT_SUBSCRIBED)
-    } else {
-        if interaction {
-            if rest {
-                if transfer {
-                    sends(
-                        Next::ToWaitCalledRest,
-                        Change::Keep,
-                        Register::AsHeld,
-                        Act::SendFac,
-                        Component::Invoke(CALLED_REQUEST),
-                        TRANSFER_PARTIAL,
-                    )
-                } else {
-                    sends(
-                        Next::ToWaitCalledRest,
-                        Change::Keep,
-                        Register::AsHeld,
-                        Act::SendFac,
-                        Component::Invoke(CALLED_REQUEST),
-                        PARTIAL_CALLED,
-                    )
-                }
-            } else {
-                if transfer {
-                    sends(
-                        Next::ToWaitCalledEntire,
-                        Change::Keep,
-                        Register::AsHeld,
-                        Act::SendFac,
-                        Component::Invoke(CALLED_REQUEST),
-                        TRANSFER,
-                    )
-                } else {
-                    sends(
-                        Next::ToWaitCalledEntire,
-                        Change::Keep,
-                        Register::AsHeld,
-                        Act::SendFac,
-                        Component::Invoke(CALLED_REQUEST),
-                        OWN_CALLED,
-                    )
-                }
-            }
-        } else {
-            access_error(Next::Stay, INTERACTION_NOT_ALLOWED)
-        }
+    match judged {
+        // D30
+        Judged::NotSubscribed => access_error(Next::Stay, USER_NOT_SUBSCRIBED),
+        // D31
+        Judged::InteractionNotAllowed => access_error(Next::Stay, INTERACTION_NOT_ALLOWED),
+        Judged::Passed => match extent {
+            Extent::Rest => match mode {
+                // D32
+                Mode::NoTransfer => sends(
+                    Next::ToWaitCalledRest,
+                    Change::Keep,
+                    Register::AsHeld,
+                    Act::SendFac,
+                    Component::Invoke(CALLED_REQUEST),
+                    PARTIAL_CALLED,
+                ),
+                // D33
+                Mode::Transfer => sends(
+                    Next::ToWaitCalledRest,
+                    Change::Keep,
+                    Register::AsHeld,
+                    Act::SendFac,
+                    Component::Invoke(CALLED_REQUEST),
+                    TRANSFER_PARTIAL,
+                ),
+            },
+            Extent::Entire => match mode {
+                // D34
+                Mode::NoTransfer => sends(
+                    Next::ToWaitCalledEntire,
+                    Change::Keep,
+                    Register::AsHeld,
+                    Act::SendFac,
+                    Component::Invoke(CALLED_REQUEST),
+                    OWN_CALLED,
+                ),
+                // D35
+                Mode::Transfer => sends(
+                    Next::ToWaitCalledEntire,
+                    Change::Keep,
+                    Register::AsHeld,
+                    Act::SendFac,
+                    Component::Invoke(CALLED_REQUEST),
+                    TRANSFER,
+                ),
+            },
+        },
     }
 }
 
-// D36, D37: 3.5.2.2.5.1 a, b.
-fn active_confirmed(agreed: bool) -> Plan
-    ensures { λ out. ⌜ out ≡ activeConfirmed agreed ⌝ }
+// Case B accepted by the own user: 3.5.2.2.5.1 a, b.
+fn active_confirmed(mode: Mode) -> Plan
+    ensures { λ out. ⌜ out ≡ activeConfirmed mode ⌝ }
 {
-    if agreed {
-        turns(
+    match mode {
+        // D36
+        Mode::NoTransfer => sends(
+            Next::ToActive,
+            Change::Keep,
+            Register::AsHeld,
+            Act::SendFac,
+            Component::Result(CALLING_REQ_ACTIVE),
+            OWN_CALLED,
+        ),
+        // D37
+        Mode::Transfer => turns(
             Change::CalledPays,
             Register::AsHeld,
             Act::ChargeCalled,
@@ -737,26 +838,40 @@ fn active_confirmed(agreed: bool) -> Plan
             Act::Nothing,
             Component::Result(CALLING_REQ_ACTIVE),
             AGREED,
-        )
-    } else {
-        sends(
-            Next::ToActive,
-            Change::Keep,
-            Register::AsHeld,
-            Act::SendFac,
-            Component::Result(CALLING_REQ_ACTIVE),
-            OWN_CALLED,
-        )
+        ),
     }
 }
 
-// D45 to D47: 3.5.2.3.5.1 and 3.5.2.4.5.1 a, b.
-fn called_accepted(accepted: bool, calling: bool, rest: bool, duration: bool) -> Plan
-    ensures { λ out. ⌜ out ≡ calledAccepted accepted calling rest duration ⌝ }
+// 3.5.2.2.5.2 i: the same error, or Not Available.
+fn active_refused(correct: Correctness, error: u8) -> Plan
+    ensures { λ out. ⌜ out ≡ activeRefused correct error ⌝ }
 {
-    if accepted {
-        if calling {
-            if rest {
+    match correct {
+        // D38
+        Correctness::Correct => far_error(Next::ToAnswered, error),
+        // D39
+        Correctness::Incorrect => far_error(Next::ToAnswered, NOT_AVAILABLE),
+    }
+}
+
+// Case B or C accepted: 3.5.2.3.5.1 and 3.5.2.4.5.1 a, b.
+fn called_accepted(extent: Extent, mode: Mode, calling: bool, duration: bool) -> Plan
+    ensures { λ out. ⌜ out ≡ calledAccepted extent mode calling duration ⌝ }
+{
+    match mode {
+        // D45
+        Mode::NoTransfer => acts(
+            Next::ToActive,
+            Change::Keep,
+            Register::AsHeld,
+            Act::NotifyAccepted,
+            Act::Nothing,
+            Act::Nothing,
+        ),
+        Mode::Transfer => match extent {
+            // D46
+            Extent::Rest => needs(
+                calling,
                 acts(
                     Next::ToActive,
                     Change::CalledPays,
@@ -764,33 +879,21 @@ fn called_accepted(accepted: bool, calling: bool, rest: bool, duration: bool) ->
                     Act::ChargeCalled,
                     Act::NotifyAccepted,
                     Act::Nothing,
-                )
-            } else {
-                if duration {
-                    acts(
-                        Next::ToActive,
-                        Change::DurationReceived,
-                        Register::CallingNumber,
-                        Act::ChargeCalled,
-                        Act::NotifyAccepted,
-                        Act::Nothing,
-                    )
-                } else {
-                    refuses(PART_ABSENT)
-                }
-            }
-        } else {
-            refuses(PART_ABSENT)
-        }
-    } else {
-        acts(
-            Next::ToActive,
-            Change::Keep,
-            Register::AsHeld,
-            Act::NotifyAccepted,
-            Act::Nothing,
-            Act::Nothing,
-        )
+                ),
+            ),
+            // D47
+            Extent::Entire => needs(
+                calling & duration,
+                acts(
+                    Next::ToActive,
+                    Change::DurationReceived,
+                    Register::CallingNumber,
+                    Act::ChargeCalled,
+                    Act::NotifyAccepted,
+                    Act::Nothing,
+                ),
+            ),
+        },
     }
 }
 
@@ -798,53 +901,63 @@ fn called_accepted(accepted: bool, calling: bool, rest: bool, duration: bool) ->
 pub fn plan_of(row: Row, t: Terms) -> Plan
     ensures { λ out. ⌜ out ≡ planOf row t ⌝ }
 {
+    let interaction = t.interaction;
+    let judged = t.judged;
+    let mode = t.mode;
+    let service = t.service;
+    let taken = t.taken;
+    let accepted = t.accepted;
+    let extent = t.extent;
+    let agreed = t.agreed;
+    let asked = t.asked;
+    let correct = t.correct;
     match row {
-        Row::NoRow => refuses(NO_ROW),
-        Row::Opened => quiet(Next::ToNull, Change::Keep, Register::FromOpening),
-        Row::TimeInSetup => quiet(Next::Stay, Change::Keep, Register::AsHeld),
-        Row::TimeCounts => quiet(Next::Stay, Change::TimePasses, Register::AsHeld),
-        Row::ClearedHere => stops(Act::SendRel, Component::Absent(0), NORMAL_CLEARING),
-        Row::Released => stops(Act::AccessRel, Component::Absent(0), t.cause),
-        Row::RunningHere => access_error(Next::Stay, ALREADY_RUNNING),
-        Row::RunningThere => far_error(Next::Stay, ALREADY_RUNNING),
-        Row::BasicRequest => basic_request(),
-        Row::AskSetup => ask_setup(t.interaction, t.transfer),
-        Row::BasicAnswer => basic_answer(),
-        Row::CallAsked => call_asked(t.interaction, t.taken, t.enough),
-        Row::SetupAccepted => accepted(t.accepted),
-        Row::SetupError => access_release(Act::Nothing, t.error, t.reason),
-        Row::SetupReleased => access_release(Act::Nothing, NOT_AVAILABLE, FACILITY_REJECTED),
-        Row::SetupFailed => access_release(Act::SendRel, NOT_AVAILABLE, FACILITY_REJECTED),
-        Row::CallAnswered => accepted(t.agreed),
-        Row::AskActive => ask_active(t.interaction, t.transfer),
-        Row::CalledAsked => called_asked(t.interaction, t.taken, t.enough, t.partial),
-        Row::ActiveAccepted => accepted(t.accepted),
-        Row::WaitError => access_error(Next::ToAnswered, t.error),
-        Row::WaitFailed => access_error(Next::ToAnswered, NOT_AVAILABLE),
-        Row::WaitReleased => access_release(Act::Stop, BASIC_SERVICE_NOT_PROVIDED, t.cause),
-        Row::PlainIam => plain_iam(t.unconditional, t.interaction, t.transfer),
-        Row::SetupAsked => setup_asked(t.barred, t.interaction, t.taken, t.calling),
-        Row::AnsweredHere => answered_here(),
-        Row::SetupConfirmed => setup_confirmed(t.agreed),
-        Row::SetupRefused => far_release(t.error, t.reason),
-        Row::SetupRejected => far_release(NOT_AVAILABLE, FACILITY_REJECTED),
-        Row::SetupIgnored => far_release(USER_IGNORED, FACILITY_REJECTED),
-        Row::SetupExpired => far_release(BASIC_SERVICE_NOT_PROVIDED, TIMER_EXPIRY),
-        Row::CallAccepted => call_accepted(t.accepted, t.calling),
-        Row::CallFailed => call_failed(),
-        Row::CallConnected => call_connected(t.agreed),
-        Row::ActiveAsked => active_asked(t.barred, t.interaction, t.taken, t.calling),
-        Row::AskPartial => ask_called(true, t.barred, t.interaction, t.transfer),
-        Row::AskEntire => ask_called(false, t.barred, t.interaction, t.transfer),
-        Row::ActiveConfirmed => active_confirmed(t.agreed),
-        Row::ActiveRefused => far_error(Next::ToAnswered, t.error),
-        Row::ActiveRejected => far_error(Next::ToAnswered, NOT_AVAILABLE),
-        Row::ActiveIgnored => far_error(Next::ToAnswered, USER_IGNORED),
+        Row::NoRow => refuses(NO_ROW), // 01, number 1
+        Row::Opened => quiet(Next::ToNull, Change::Keep, Register::FromOpening), // G1
+        Row::TimeInSetup => quiet(Next::Stay, Change::Keep, Register::AsHeld), // G2
+        Row::TimeCounts => quiet(Next::Stay, Change::TimePasses, Register::AsHeld), // G3
+        Row::ClearedHere => stops(Act::SendRel, Component::Absent(0), NORMAL_CLEARING), // G4, O19, O39, D15, D25, D55
+        Row::Released => stops(Act::AccessRel, Component::Absent(0), t.cause), // G5, O18, O40, D24, D56
+        Row::RunningHere => access_error(Next::Stay, ALREADY_RUNNING), // O35, O37, D43, D53
+        Row::RunningThere => far_error(Next::Stay, ALREADY_RUNNING), // O36, O38, D44, D54
+        Row::BasicRequest => basic_request(), // O1
+        Row::AskSetup => ask_setup(interaction, mode), // O2 to O4
+        Row::BasicAnswer => basic_answer(), // O5
+        Row::UnconditionalAsked => unconditional_asked(interaction, taken, t.called), // O6 to O8
+        Row::SetupAccepted => accepted_at_answer(accepted), // O9, O10
+        Row::SetupError => setup_error(correct, t.error, t.cause), // O11, O12
+        Row::SetupReleased => access_release(Act::Nothing, NOT_AVAILABLE, FACILITY_REJECTED), // O13
+        Row::SetupFailed => access_release(Act::SendRel, NOT_AVAILABLE, FACILITY_REJECTED), // O14, O15
+        Row::UnconditionalAnswered => accepted_at_answer(agreed), // O16, O17
+        Row::AskActive => ask_active(interaction, mode), // O20 to O22
+        Row::CalledAsked => called_asked(interaction, extent, taken, t.called), // O23 to O27
+        Row::ActiveAccepted => accepted_in_call(accepted), // O28, O29
+        Row::WaitError => wait_error(correct, t.error), // O30, O31, D48, D49
+        Row::WaitFailed => access_error(Next::ToAnswered, NOT_AVAILABLE), // O32, O33, D50, D51
+        Row::WaitReleased => access_release(Act::Stop, BASIC_SERVICE_NOT_PROVIDED, t.cause), // O34, D52
+        Row::PlainIam => plain_iam(service, interaction, mode), // D1 to D4
+        Row::SetupAsked => setup_asked(judged, taken, t.calling), // D5 to D8
+        Row::AnsweredHere => answered_here(), // D9
+        Row::SetupConfirmed => setup_confirmed(agreed), // D10, D11
+        Row::SetupRefused => setup_refused(correct, t.error, t.cause), // D12, D13
+        Row::SetupRejected => far_release(NOT_AVAILABLE, FACILITY_REJECTED), // D14
+        Row::SetupIgnored => far_release(USER_IGNORED, FACILITY_REJECTED), // D16
+        Row::SetupExpired => far_release(BASIC_SERVICE_NOT_PROVIDED, TIMER_EXPIRY), // D17
+        Row::UnconditionalAccepted => unconditional_accepted(accepted, t.calling), // D18, D19
+        Row::UnconditionalFailed => unconditional_failed(), // D20, D21
+        Row::UnconditionalConnected => unconditional_connected(agreed), // D22, D23
+        Row::ActiveAsked => active_asked(judged, taken, t.calling), // D26 to D29
+        Row::AskPartial => ask_called(judged, Extent::Rest, mode), // D30 to D33
+        Row::AskEntire => ask_called(judged, Extent::Entire, mode), // D30, D31, D34, D35
+        Row::ActiveConfirmed => active_confirmed(agreed), // D36, D37
+        Row::ActiveRefused => active_refused(correct, t.error), // D38, D39
+        Row::ActiveRejected => far_error(Next::ToAnswered, NOT_AVAILABLE), // D40
+        Row::ActiveIgnored => far_error(Next::ToAnswered, USER_IGNORED), // D41
         Row::ActiveCleared => stops(
             Act::SendRel,
             Component::Error(BASIC_SERVICE_NOT_PROVIDED),
             NORMAL_CLEARING,
-        ),
-        Row::CalledAccepted => called_accepted(t.accepted, t.calling, t.rest, t.duration),
+        ), // D42
+        Row::CalledAccepted => called_accepted(asked, accepted, t.calling, t.duration), // D45 to D47
     }
 }

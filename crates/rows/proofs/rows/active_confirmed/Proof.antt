@@ -6,5 +6,5 @@ pub active-confirmed-spec : {M : Type 1} → statement M
 active-confirmed-spec =
     tie.close
     (tie.spec
-    (λ c. λ κs. search needs) (λ c. λ κs. search needs) (λ c. simp (c .turns .ensures, c .before .if1 .taken))
-    (λ c. simp (c .sends .ensures, c .before .if1 .left)))
+    (λ c. search needs) (λ c. λ κs. search needs) (λ c. search needs) (λ c. λ κs. search needs)
+    (λ c. simp (c .sends .ensures, c .before .enum-told .given .1)) (λ c. simp (c .turns .ensures, c .before .enum-told2 .given .1)))

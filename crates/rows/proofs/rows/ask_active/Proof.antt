@@ -6,7 +6,7 @@ pub ask-active-spec : {M : Type 1} → statement M
 ask-active-spec =
     tie.close
     (tie.spec
-    (λ c. λ κs. search needs) (λ c. λ κs. search needs) (λ c. λ κs. search needs)
-    (λ c. simp (c .sends .ensures, c .before .if2 .taken, c .before .before .if1 .taken))
-    (λ c. simp (c .sends2 .ensures, c .before .if2 .left, c .before .before .if1 .taken))
-    (λ c. simp (c .access-error .ensures, c .before .if1 .left)))
+    (λ c. search needs) (λ c. λ κs. search needs) (λ c. search needs) (λ c. search needs) (λ c. λ κs. search needs)
+    (λ c. search needs) (λ c. λ κs. search needs) (λ c. simp (c .access-error .ensures, c .before .enum-told .given .1))
+    (λ c. simp (c .sends .ensures, c .before .enum-told3 .given .1, c .before .before .before .enum-told2 .given .1))
+    (λ c. simp (c .sends2 .ensures, c .before .enum-told4 .given .1, c .before .before .before .enum-told2 .given .1)))

@@ -6,10 +6,12 @@ pub ask-called-spec : {M : Type 1} → statement M
 ask-called-spec =
     tie.close
     (tie.spec
-    (λ c. λ κs. search needs) (λ c. λ κs. search needs) (λ c. λ κs. search needs) (λ c. λ κs. search needs) (λ c. λ κs. search needs)
-    (λ c. λ κs. search needs) (λ c. simp (c .access-error .ensures, c .before .if1 .taken))
-    (λ c. simp (c .sends .ensures, c .before .if4 .taken, c .before .before .if3 .taken, c .before .before .before .if2 .taken, c .before .before .before .before .if1 .left))
-    (λ c. simp (c .sends2 .ensures, c .before .if4 .left, c .before .before .if3 .taken, c .before .before .before .if2 .taken, c .before .before .before .before .if1 .left))
-    (λ c. simp (c .sends3 .ensures, c .before .if5 .taken, c .before .before .if3 .left, c .before .before .before .if2 .taken, c .before .before .before .before .if1 .left))
-    (λ c. simp (c .sends4 .ensures, c .before .if5 .left, c .before .before .if3 .left, c .before .before .before .if2 .taken, c .before .before .before .before .if1 .left))
-    (λ c. simp (c .access-error2 .ensures, c .before .if2 .left, c .before .before .if1 .left)))
+    (λ c. search needs) (λ c. λ κs. search needs) (λ c. search needs) (λ c. λ κs. search needs) (λ c. search needs)
+    (λ c. search needs) (λ c. search needs) (λ c. λ κs. search needs) (λ c. search needs) (λ c. λ κs. search needs)
+    (λ c. search needs) (λ c. search needs) (λ c. λ κs. search needs) (λ c. search needs) (λ c. λ κs. search needs)
+    (λ c. simp (c .access-error .ensures, c .before .enum-told .given .1))
+    (λ c. simp (c .access-error2 .ensures, c .before .enum-told2 .given .1))
+    (λ c. simp (c .sends .ensures, c .before .enum-told5 .given .1, c .before .before .before .enum-told4 .given .1, c .before .before .before .before .before .enum-told3 .given .1))
+    (λ c. simp (c .sends2 .ensures, c .before .enum-told6 .given .1, c .before .before .before .enum-told4 .given .1, c .before .before .before .before .before .enum-told3 .given .1))
+    (λ c. simp (c .sends3 .ensures, c .before .enum-told8 .given .1, c .before .before .before .enum-told7 .given .1, c .before .before .before .before .before .enum-told3 .given .1))
+    (λ c. simp (c .sends4 .ensures, c .before .enum-told9 .given .1, c .before .before .before .enum-told7 .given .1, c .before .before .before .before .before .enum-told3 .given .1)))

@@ -6,9 +6,8 @@ pub called-accepted-spec : {M : Type 1} → statement M
 called-accepted-spec =
     tie.close
     (tie.spec
-    (λ c. λ κs. search needs) (λ c. λ κs. search needs) (λ c. λ κs. search needs) (λ c. λ κs. search needs) (λ c. λ κs. search needs)
-    (λ c. simp (c .acts .ensures, c .before .if3 .taken, c .before .before .if2 .taken, c .before .before .before .if1 .taken))
-    (λ c. simp (c .acts2 .ensures, c .before .if4 .taken, c .before .before .if3 .left, c .before .before .before .if2 .taken, c .before .before .before .before .if1 .taken))
-    (λ c. simp (c .refuses .ensures, c .before .if4 .left, c .before .before .if3 .left, c .before .before .before .if2 .taken, c .before .before .before .before .if1 .taken))
-    (λ c. simp (c .refuses2 .ensures, c .before .if2 .left, c .before .before .if1 .taken))
-    (λ c. simp (c .acts3 .ensures, c .before .if1 .left)))
+    (λ c. search needs) (λ c. λ κs. search needs) (λ c. search needs) (λ c. search needs) (λ c. λ κs. search needs)
+    (λ c. λ κs. search needs) (λ c. search needs) (λ c. λ κs. search needs) (λ c. λ κs. search needs)
+    (λ c. simp (c .acts .ensures, c .before .enum-told .given .1))
+    (λ c. simp (c .needs .ensures, c .before .acts2 .ensures, c .before .before .enum-told3 .given .1, c .before .before .before .before .enum-told2 .given .1))
+    (λ c. simp (c .needs2 .ensures, c .before .acts3 .ensures, c .before .before .enum-told4 .given .1, c .before .before .before .before .enum-told2 .given .1)))

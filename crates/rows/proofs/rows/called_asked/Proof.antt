@@ -6,11 +6,11 @@ pub called-asked-spec : {M : Type 1} → statement M
 called-asked-spec =
     tie.close
     (tie.spec
-    (λ c. λ κs. search needs) (λ c. λ κs. search needs) (λ c. λ κs. search needs) (λ c. λ κs. search needs) (λ c. λ κs. search needs)
-    (λ c. λ κs. search needs)
-    (λ c. simp (c .turns .ensures, c .before .if3 .taken, c .before .before .if2 .taken, c .before .before .before .if1 .taken))
-    (λ c. simp (c .turns2 .ensures, c .before .if3 .left, c .before .before .if2 .taken, c .before .before .before .if1 .taken))
-    (λ c. simp (c .turns3 .ensures, c .before .if5 .taken, c .before .before .if4 .taken, c .before .before .before .if2 .left, c .before .before .before .before .if1 .taken))
-    (λ c. simp (c .turns4 .ensures, c .before .if5 .left, c .before .before .if4 .taken, c .before .before .before .if2 .left, c .before .before .before .before .if1 .taken))
-    (λ c. simp (c .refuses .ensures, c .before .if4 .left, c .before .before .if2 .left, c .before .before .before .if1 .taken))
-    (λ c. simp (c .far-error .ensures, c .before .if1 .left)))
+    (λ c. search needs) (λ c. λ κs. search needs) (λ c. search needs) (λ c. search needs) (λ c. search needs)
+    (λ c. λ κs. search needs) (λ c. λ κs. search needs) (λ c. search needs) (λ c. λ κs. search needs) (λ c. search needs)
+    (λ c. search needs) (λ c. λ κs. search needs) (λ c. λ κs. search needs) (λ c. search needs) (λ c. λ κs. search needs)
+    (λ c. simp (c .far-error .ensures, c .before .enum-told .given .1))
+    (λ c. simp (c .needs .ensures, c .before .turns .ensures, c .before .before .enum-told4 .given .1, c .before .before .before .before .enum-told3 .given .1, c .before .before .before .before .before .before .enum-told2 .given .1))
+    (λ c. simp (c .turns2 .ensures, c .before .enum-told5 .given .1, c .before .before .before .enum-told3 .given .1, c .before .before .before .before .before .enum-told2 .given .1))
+    (λ c. simp (c .needs2 .ensures, c .before .turns3 .ensures, c .before .before .enum-told7 .given .1, c .before .before .before .before .enum-told6 .given .1, c .before .before .before .before .before .before .enum-told2 .given .1))
+    (λ c. simp (c .turns4 .ensures, c .before .enum-told8 .given .1, c .before .before .before .enum-told6 .given .1, c .before .before .before .before .before .enum-told2 .given .1)))

@@ -6,7 +6,8 @@ pub plain-iam-spec : {M : Type 1} → statement M
 plain-iam-spec =
     tie.close
     (tie.spec
-    (λ c. λ κs. search needs) (λ c. λ κs. search needs) (λ c. λ κs. search needs) (λ c. λ κs. search needs)
-    (λ c. simp (c .sends .ensures, c .before .if3 .taken, c .before .before .if2 .taken, c .before .before .before .if1 .taken))
-    (λ c. simp (c .sends2 .ensures, c .before .if3 .left, c .before .before .if2 .taken, c .before .before .before .if1 .taken))
-    (λ c. search needs) (λ c. simp (c .acts .ensures, c .before .if1 .left)))
+    (λ c. search needs) (λ c. λ κs. search needs) (λ c. search needs) (λ c. search needs) (λ c. λ κs. search needs)
+    (λ c. search needs) (λ c. search needs) (λ c. λ κs. search needs) (λ c. search needs) (λ c. λ κs. search needs)
+    (λ c. simp (c .acts .ensures, c .before .enum-told .given .1)) (λ c. search needs)
+    (λ c. simp (c .sends .ensures, c .before .enum-told5 .given .1, c .before .before .before .enum-told4 .given .1, c .before .before .before .before .before .enum-told2 .given .1))
+    (λ c. simp (c .sends2 .ensures, c .before .enum-told6 .given .1, c .before .before .before .enum-told4 .given .1, c .before .before .before .before .before .enum-told2 .given .1)))
