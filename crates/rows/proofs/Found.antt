@@ -179,7 +179,7 @@ module _ (g : Kind → Row → Bool) (t : Kind → Row) (o : Tried (g Opens) (t 
   table =
       record {
         test =
-          o .test && (a .test && (i .test && (w .test && (r .test && (f .test && (d .test && (x .test && p .test)))))));
+            o .test && (a .test && (i .test && (w .test && (r .test && (f .test && (d .test && (x .test && p .test)))))));
         law = λ h k. cell k .law (kinds (λ k′. cell k′ .test) h k);
       }
 
@@ -328,9 +328,9 @@ pub found : (f : Test) → ((e : Cue) (t : Terms) (a b : Bool) → everywhere f 
     f r now (e .kind) (planOf (rowForOf r (now .phase) (now .rev) e) t) ≡ true
 found f h r now e t =
     let k = rev (λ s. walk (rowTest f t r (at (now .phase) s (now .agreed) (now .rest))) e r (now .phase) s .test)
-      (phase (λ p. everyRev (λ s. walk (rowTest f t r (at p s (now .agreed) (now .rest))) e r p s .test))
-      (role (λ r′. everyPhase (λ p. everyRev (λ s. walk (rowTest f t r′ (at p s (now .agreed) (now .rest))) e r′ p s .test)))
-      (h e t (now .agreed) (now .rest)) r) (now .phase)) (now .rev) in
+    (phase (λ p. everyRev (λ s. walk (rowTest f t r (at p s (now .agreed) (now .rest))) e r p s .test))
+    (role (λ r′. everyPhase (λ p. everyRev (λ s. walk (rowTest f t r′ (at p s (now .agreed) (now .rest))) e r′ p s .test)))
+    (h e t (now .agreed) (now .rest)) r) (now .phase)) (now .rev) in
     plans (f r now (e .kind)) t (rowForOf r (now .phase) (now .rev) e) .law
     (walk (rowTest f t r now) e r (now .phase) (now .rev) .law k)
 

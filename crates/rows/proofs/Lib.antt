@@ -1,4 +1,5 @@
 pub mod Below
 pub mod Found
 pub mod Opened
+pub mod Phases
 pub mod Whole

@@ -4,6 +4,7 @@ pub mod Find
 pub mod History
 pub mod Numbers
 pub mod Perform
+pub mod Promises
 pub mod Read
 pub mod Rows
 pub mod Step
