@@ -5,6 +5,7 @@
 use mathlib.Core.Path.{_≡_, refl}
 use mathlib.Core.Bool.{Bool, true, false, _&&_, not}
 use Prim.Native.Nat.{ℕ}
+use native.Mathlib.Omega.{arith}
 use lib.Dec.{eqb}
 use borrow.Author.Tests.{not-true}
 use Rattle.meters.specs.Meters.{changeOf}
@@ -43,6 +44,18 @@ left false b h = h
 pub right : (a b : Bool) → (a && b) ≡ true → b ≡ true
 right true b h = h
 right false b h = cc
+
+pub clash : false ≡ true → ⊥
+clash h = let z : _≡_ {A = ℕ} 0 1 = cc in omega arith
+
+-- if a, then b
+abbrev pub implies : Bool → Bool → Bool
+implies true b = b
+implies false b = true
+
+pub so : (a b : Bool) → implies a b ≡ true → a ≡ true → b ≡ true
+so true b h e = h
+so false b h e = cc
 
 -- ---- A test tried on all values of which x is one
 

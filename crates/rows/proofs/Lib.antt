@@ -2,4 +2,5 @@ pub mod Below
 pub mod Found
 pub mod Opened
 pub mod Phases
+pub mod Stays
 pub mod Whole

@@ -30,18 +30,9 @@ use Rattle.rows.specs.declared.Role.the-variants.{Originating, Destinati
 use Rattle.rows.specs.declared.Row.{Row}
 use Rattle.rows.specs.declared.Stand.{Stand}
 use Rattle.rows.specs.declared.Terms.{Terms}
-use Rattle.rows.proofs.Found.{left, right, Test, everywhere, planFor, holds, Applied, stepped}
+use Rattle.rows.proofs.Found.{left, right, clash, implies, so, Test, everywhere, planFor, holds, Applied, stepped}
 
 -- ---- Kinds of events, and the tests of the promises
-
--- if a, then b
-abbrev implies : Bool → Bool → Bool
-implies true b = b
-implies false b = true
-
-so : (a b : Bool) → implies a b ≡ true → a ≡ true → b ≡ true
-so true b h e = h
-so false b h e = cc
 
 abbrev isOpens : Kind → Bool
 isOpens Opens = true
@@ -110,9 +101,6 @@ answers (Received m) h = anm-or-con (eqb (m .kind) 1) (eqb (m .kind) 2 || eqb (m
 answers (FromAccess a n) h = h
 answers Expiry h = h
 answers (Time s) h = h
-
-clash : false ≡ true → ⊥
-clash h = let z : _≡_ {A = ℕ} 0 1 = cc in omega arith
 
 -- ---- NONE, NULL, SETUP, ANSWERED, CLEARED
 
