@@ -17,7 +17,7 @@ use Rattle.rows.specs.Perform.{refusedOf, followsOf, settledOf, performI
 use Rattle.rows.specs.Read.{readOf, cueOf, termsOf}
 use Rattle.rows.specs.Rows
 use Rattle.rows.specs.Rows.{planOf}
-use Rattle.rows.specs.Step.{ifInRange, ifCall, stepOf}
+use Rattle.rows.specs.Step.{takesOf, ifInRange, ifCall, stepOf}
 use Rattle.rows.specs.Valid.{validOf, eventOk}
 use Rattle.rows.specs.declared.Call.{Call}
 use Rattle.rows.specs.declared.Cue.{Cue}
@@ -28,6 +28,7 @@ use Rattle.rows.specs.declared.Outcome.{Outcome}
 use Rattle.rows.specs.declared.Phase.{Phase}
 use Rattle.rows.specs.declared.Phase.the-variants.{Unopened, Null, Setup, Answered, Cleared}
 use Rattle.rows.specs.declared.Plan.{Plan}
+use Rattle.rows.specs.declared.Reading.{Reading}
 use Rattle.rows.specs.declared.RevState.{RevState}
 use Rattle.rows.specs.declared.RevState.the-variants.{Idle, WaitSetup, WaitActive, WaitAnswer, Active, WaitSetupConf, WaitActiveConf, WaitCalled}
 use Rattle.rows.specs.declared.Role.{Role}
@@ -57,6 +58,15 @@ pub so : (a b : Bool) → implies a b ≡ true → a ≡ true → b ≡ true
 so true b h e = h
 so false b h e = cc
 
+-- a row that a test of the tables chooses; with the test in what is said of it
+pub split : (P : Row → Type 0) (b : Bool) (x y : Row) → P x → P y → P (when b x y)
+split P true x y p q = p
+split P false x y p q = q
+
+pub fork : (P : Bool → Row → Type 0) (b : Bool) (x y : Row) → P true x → P false y → P b (when b x y)
+fork P true x y p q = p
+fork P false x y p q = q
+
 -- ---- A test tried on all values of which x is one
 
 pub record Tried {A : Type 0} (g : A → Bool) (x : A) : Type 0 where
@@ -66,10 +76,9 @@ pub record Tried {A : Type 0} (g : A → Bool) (x : A) : Type 0 where
 abbrev one : {A : Type 0} {g : A → Bool} {x : A} → Tried g x
 one {A} {g} {x} = record { test = g x; law = λ h. h }
 
--- a row that a test of the tables chooses
-pub branch : (g : Row → Bool) (b : Bool) (x y : Row) (v w : Bool) → (v ≡ true → g x ≡ true) → (w ≡ true → g y ≡ true) → (v && w) ≡ true → g (when b x y) ≡ true
-branch g true x y v w p q h = p (left v w h)
-branch g false x y v w p q h = q (right v w h)
+pub branch : (g : Row → Bool) (b : Bool) (x y : Row) (v w : Bool) → (v ≡ true → g x ≡ true) → (w ≡ true → g y ≡ true) → (v && w) ≡ true →
+    g (when b x y) ≡ true
+branch g b x y v w p q h = split (λ (z : Row). g z ≡ true) b x y (p (left v w h)) (q (right v w h))
 
 abbrev either : {g : Row → Bool} {x y : Row} (b : Bool) → Tried g x → Tried g y → Tried g (when b x y)
 either {g} {x} {y} b p q = record { test = p .test && q .test; law = branch g b x y (p .test) (q .test) (p .law) (q .law) }
@@ -368,27 +377,35 @@ pub record Applied (c : Call) (e : Event) (n : Meters) : Type 0 where
 abbrev unlikeNine : Test
 unlikeNine r now k p = not (eqb (p .number) 9)
 
-module _ (P : Outcome → Type 0) (c : Call) (e : Event)
-    (nine : validOf c ≡ false → P (refusedOf 9 c))
-    (refuses : (n : ℕ) → validOf c ≡ true → eqb n 0 ≡ false → eqb n 9 ≡ false → P (refusedOf n c))
-    (follows : (n : Meters) → Applied c e n → P (followsOf c (planFor c e) (readOf e) n)) where
-  settles : validOf c ≡ true → eventOk e ≡ true → eqb (planFor c e .number) 0 ≡ true →
-      (x : Metered) → changeOf (planFor c e .change) (c .meters) (readOf e .seconds) ≡ x → P (settledOf x c (planFor c e) (readOf e))
-  settles v o r (Done n) h = follows n (record { valid = v; ranged = o; row = r; meters = h })
-  settles v o r NoPayer h = refuses 10 v refl refl
-  settles v o r TooMuch h = refuses 2 v refl refl
-
-  performs : validOf c ≡ true → eventOk e ≡ true → (b : Bool) → eqb (planFor c e .number) 0 ≡ b → P (performIf b c (planFor c e) (readOf e))
-  performs v o true r = settles v o r (changeOf (planFor c e .change) (c .meters) (readOf e .seconds)) refl
-  performs v o false r = refuses (planFor c e .number) v r (not-true _ (holds unlikeNine (λ e t a b. refl) c e))
-
+-- 9 and 3 are refusals; else the row decides
+module _ (P : Outcome → Type 0) (c : Call) (e : Event) (nine : validOf c ≡ false → P (refusedOf 9 c)) (three : validOf c ≡ true → P (refusedOf 3 c))
+    (takes : validOf c ≡ true → eventOk e ≡ true → P (takesOf c e)) where
   in-range : validOf c ≡ true → (b : Bool) → eventOk e ≡ b → P (ifInRange b c e)
-  in-range v true o = performs v o (eqb (planFor c e .number) 0) refl
-  in-range v false o = refuses 3 v refl refl
+  in-range v true o = takes v o
+  in-range v false o = three v
 
   is-call : (b : Bool) → validOf c ≡ b → P (ifCall b c e)
   is-call true v = in-range v (eventOk e) refl
   is-call false v = nine v
 
+  pub guarded : P (stepOf c e)
+  guarded = is-call (validOf c) refl
+
+-- 10 and 2 are refusals; else the meters that follow are those of the change
+pub settled : (P : Outcome → Type 0) (x : Metered) (c : Call) (p : Plan) (r : Reading) →
+    ((n : Meters) → x ≡ Done n → P (followsOf c p r n)) → P (refusedOf 10 c) → P (refusedOf 2 c) → P (settledOf x c p r)
+settled P (Done n) c p r h i j = h n refl
+settled P NoPayer c p r h i j = i
+settled P TooMuch c p r h i j = j
+
+module _ (P : Outcome → Type 0) (c : Call) (e : Event) (nine : validOf c ≡ false → P (refusedOf 9 c))
+    (refuses : (n : ℕ) → validOf c ≡ true → eqb n 0 ≡ false → eqb n 9 ≡ false → P (refusedOf n c))
+    (follows : (n : Meters) → Applied c e n → P (followsOf c (planFor c e) (readOf e) n)) where
+  performs : validOf c ≡ true → eventOk e ≡ true → (b : Bool) → eqb (planFor c e .number) 0 ≡ b → P (performIf b c (planFor c e) (readOf e))
+  performs v o true r =
+      settled P (changeOf (planFor c e .change) (c .meters) (readOf e .seconds)) c (planFor c e) (readOf e)
+      (λ n h. follows n (record { valid = v; ranged = o; row = r; meters = h })) (refuses 10 v refl refl) (refuses 2 v refl refl)
+  performs v o false r = refuses (planFor c e .number) v r (not-true _ (holds unlikeNine (λ e t a b. refl) c e))
+
   pub stepped : P (stepOf c e)
-  stepped = is-call (validOf c) refl
+  stepped = guarded P c e nine (λ v. refuses 3 v refl refl) (λ v o. performs v o (eqb (planFor c e .number) 0) refl)

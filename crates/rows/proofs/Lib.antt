@@ -1,4 +1,5 @@
 pub mod Below
+pub mod Destination
 pub mod Found
 pub mod Opened
 pub mod Phases
