@@ -8,24 +8,22 @@ use Prim.Native.Nat.{ℕ, _+_, _≤_}
 use native.Mathlib.Omega.{arith}
 use lib.Dec.{eqb, leb}
 use borrow.Author.Tests.{eqb-true, eqb-false, eq-eqb, leb-true}
-use Rattle.meters.proofs.Laws
 use Rattle.meters.proofs.Laws.{Gave, gave, duration-counts}
 use Rattle.meters.specs.Meters.{newOf, paidByOf, giveOf, receivedOf}
-use Rattle.meters.specs.declared.Metered.{Metered}
-use Rattle.meters.specs.declared.Metered.the-variants.{Done, NoPayer, TooMuch}
+use Rattle.meters.specs.declared.Metered.the-variants.{Done}
 use Rattle.meters.specs.declared.Meters.{Meters}
 use Rattle.meters.specs.declared.Payer.{Payer}
-use Rattle.meters.specs.declared.Payer.the-variants.{Nobody, Caller, Called, Far}
-use Rattle.rows.specs.Bill.{pick, Step, accepted, isAnswered, isRev, isTime, secondsIn, counted, times, sum, answered, resultTo}
+use Rattle.meters.specs.declared.Payer.the-variants.{Nobody, Called, Far}
+use Rattle.rows.specs.Bill.{pick, Step, accepted, isAnswered, isRev, secondsIn, counted, times, sum, answered, resultTo}
 use Rattle.rows.specs.Find.{when, destinationNullOf, destinationSetupIdleOf, waitSetupConfOf, setupWaitCalledOf, destinationWaitAnswerOf, destinationAnsweredIdleOf, waitActiveConfOf, answeredWaitCalledOf, activeOf}
 use Rattle.rows.specs.History.{run, written, history}
-use Rattle.rows.specs.Perform.{refusedOf, followsOf, settledOf, performOf}
+use Rattle.rows.specs.Perform.{performOf}
 use Rattle.rows.specs.Promises.{openingThere, asksC, entireAsked, givesTransfer, usesDuration, durationIn, Use, unused, used, orElse, lastUse, secondsBy, secondsThere, isUnused, noDuration}
-use Rattle.rows.specs.Read.{bit, lowest, flagsOf, heardOf, kindBy, kindOf, readOf, cueOf, termsOf}
+use Rattle.rows.specs.Read.{bit, lowest, flagsOf, heardOf, kindBy, readOf, cueOf, termsOf}
 use Rattle.rows.specs.Rows
 use Rattle.rows.specs.Rows.{planOf}
-use Rattle.rows.specs.Step.{unopenedCall, takesOf, ifInRange, ifCall, stepOf}
-use Rattle.rows.specs.Valid.{payerThere, validOf, messageOk, eventOk}
+use Rattle.rows.specs.Step.{unopenedCall, takesOf, ifInRange, stepOf}
+use Rattle.rows.specs.Valid.{payerThere, messageOk, eventOk}
 use Rattle.rows.specs.declared.Call.{Call}
 use Rattle.rows.specs.declared.Component.{Component}
 use Rattle.rows.specs.declared.Component.the-variants.{Absent, Invoke, Result, Error, Reject, Unknown}
@@ -41,12 +39,12 @@ use Rattle.rows.specs.declared.Outcome.{Outcome}
 use Rattle.rows.specs.declared.Phase.{Phase}
 use Rattle.rows.specs.declared.Phase.the-variants.{Null, Setup, Answered, Cleared}
 use Rattle.rows.specs.declared.Plan.{Plan}
-use Rattle.rows.specs.declared.Reading.{Reading}
 use Rattle.rows.specs.declared.RevState.{RevState}
-use Rattle.rows.specs.declared.RevState.the-variants.{Idle, WaitSetup, WaitActive, WaitAnswer, Active, WaitSetupConf, WaitActiveConf, WaitCalled}
+use Rattle.rows.specs.declared.RevState.the-variants.{Idle, WaitAnswer, Active, WaitSetupConf, WaitActiveConf, WaitCalled}
 use Rattle.rows.specs.declared.Role.the-variants.{Destination}
 use Rattle.rows.specs.declared.Row.{Row}
 use Rattle.rows.proofs.Found.{left, right, split, fork, settled, guarded}
+use Rattle.rows.proofs.Stays.{not-callers}
 use Rattle.rows.proofs.Whole.{by-kind}
 
 -- ---- The invariant: a call agrees with the request remembered (w) and the seconds that the history says (x)
@@ -87,7 +85,8 @@ remembers b w s = pick (accepted s && (isAnswered (s .phase) && (isRev Idle (s .
 
 abbrev usesBy : Bool → Bool → Step → Bool
 usesBy g w s =
-    accepted s && (isAnswered (s .phase) && (isRev WaitCalled (s .rev) && (isAnswered (s .phaseAfter) && (isRev Active (s .revAfter) && (g && w)))))
+    accepted s && (isAnswered (s .phase) && (isRev WaitCalled (s .rev) && (isAnswered (s .phaseAfter)
+    && (isRev Active (s .revAfter) && (g && w)))))
 
 abbrev counts : Bool → Bool → ℕ → Step → ℕ
 counts g w x s = pick (usesBy g w s) (durationIn (s .event)) (pick (counted s) (x + secondsIn (s .event)) x)
@@ -104,12 +103,6 @@ abbrev Fine : ℕ → Bool → Bool → Call → Bool → ℕ → Event → Row 
 Fine f b g c w x e row = Does f b g c w x e (planOf row (termsOf (c .side .flags) (c .stand) (readOf e)))
 
 -- ---- What the meters promise
-
-not-callers : (p : Payer) (s : ℕ) → payerThere p ≡ true → Laws.share Caller p s ≡ 0
-not-callers Nobody s h = refl
-not-callers Caller s h = cc
-not-callers Called s h = refl
-not-callers Far s h = refl
 
 ticks : {m n : Meters} {x s : ℕ} → Right m x → Gave m n (m .payer) s → Right n (x + s)
 ticks {m} {n} {x} {s} z g =
@@ -134,7 +127,8 @@ begins-called = record { there = refl; sums = record { caller = refl; both = ref
 fails : {f : ℕ} {u v z : Number} {a r w : Bool} → Agrees f (at f u v z Cleared Idle a r newOf) w 0
 fails = over (record { caller = refl; both = refl })
 
-ends : {f : ℕ} {u v z : Number} {a r w : Bool} {m : Meters} {x : ℕ} → Right m x → Agrees f (at f u v z Cleared Idle a r (paidByOf m Nobody)) w x
+ends : {f : ℕ} {u v z : Number} {a r w : Bool} {m : Meters} {x : ℕ} → Right m x →
+    Agrees f (at f u v z Cleared Idle a r (paidByOf m Nobody)) w x
 ends z = over (record { caller = z .sums .caller; both = z .sums .both })
 
 ruleset states = (null, setup, asked-A, asked-D, waits, talks, asked-B, asked, turned, over, fails, ends, begins-far, begins-called)
@@ -279,14 +273,16 @@ asks f q n {c} {w} {x} (turned y) =
 asks f q n (over y) = search states
 
 -- a message in range that is no IAM, ANM, CON or REL is a FAC
-kinds : (P : Kind → Bool → Type 0) (k : ℕ) → 1 ≤ k → k ≤ 5 → ((b : Bool) → P Iam b) → ((b : Bool) → P Answer b) → ((b : Bool) → P Rel b) → P Fac true →
+kinds : (P : Kind → Bool → Type 0) (k : ℕ) → 1 ≤ k → k ≤ 5 →
+    ((b : Bool) → P Iam b) → ((b : Bool) → P Answer b) → ((b : Bool) → P Rel b) → P Fac true →
     (i a r : Bool) → eqb k 1 ≡ i → (eqb k 2 || eqb k 3) ≡ a → eqb k 4 ≡ r → P (kindBy i a r) (eqb k 5)
 kinds P k l u p q s t true a r h i j = p (eqb k 5)
 kinds P k l u p q s t false true r h i j = q (eqb k 5)
 kinds P k l u p q s t false false true h i j = s (eqb k 5)
 kinds P k l u p q s t false false false h i j =
-    subst (P Fac)
-    (sym (eq-eqb k 5 (omega (arith, eqb-false k 1 h, eqb-false k 2 (or-left (eqb k 2) _ i), eqb-false k 3 (or-right (eqb k 2) _ i), eqb-false k 4 j)))) t
+    let n2 = eqb-false k 2 (or-left (eqb k 2) _ i) in
+    let n3 = eqb-false k 3 (or-right (eqb k 2) _ i) in
+    subst (P Fac) (sym (eq-eqb k 5 (omega (arith, eqb-false k 1 h, n2, n3, eqb-false k 4 j)))) t
   where
     or-left : (a b : Bool) → (a || b) ≡ false → a ≡ false
     or-left true b e = e
@@ -345,7 +341,8 @@ module _ (f : ℕ) (l : Message) (ok : messageOk l ≡ true) where
       kinds (onFac c w x) (l .kind) (leb-true _ _ (left (leb 1 (l .kind)) _ (left (leb 1 (l .kind) && leb (l .kind) 5) _ ok)))
       (leb-true _ _ (right (leb 1 (l .kind)) _ (left (leb 1 (l .kind) && leb (l .kind) 5) _ ok)))
       (λ b. asked y) (λ b. asked y) (λ b. search states)
-      (fork (onResult c w x) (word .resultcalled) _ _ (accepted-BC f u v z a false l y (transferred f l) (bit 16 (l .parts)) r (bit 64 (l .parts)))
+      (fork (onResult c w x) (word .resultcalled) _ _
+      (accepted-BC f u v z a false l y (transferred f l) (bit 16 (l .parts)) r (bit 64 (l .parts)))
       (split (onResult c w x false) (word .failure) _ _ (search states)
       (split (onResult c w x false) (word .rejection) _ _ (search states) (asked y))))
       (eqb (l .kind) 1) (eqb (l .kind) 2 || eqb (l .kind) 3) (eqb (l .kind) 4) refl refl refl
@@ -453,18 +450,18 @@ abbrev from : ℕ → List Step → Use → ℕ
 from x h unused = x + answered h
 from x h (used d since) = d + answered since
 
-step-from : (x d n : ℕ) (ns : List ℕ) (h : List Step) (s : Step) (b c : Bool) (u : Use) → times (s ∷ h) ≡ pick c (n ∷ times h) (times h) →
+step-from : (x d n : ℕ) (h : List Step) (s : Step) (b c : Bool) (u : Use) → times (s ∷ h) ≡ pick c (n ∷ times h) (times h) →
     from (pick b d (pick c (x + n) x)) h u ≡ from x (s ∷ h) (orElse u (pick b (used d h) unused))
-step-from x d n ns h s b c (used e k) t = refl
-step-from x d n ns h s true c unused t = refl
-step-from x d n ns h s false true unused t = omega (arith, ap sum t)
-step-from x d n ns h s false false unused t = omega (arith, ap sum t)
+step-from x d n h s b c (used e k) t = refl
+step-from x d n h s true c unused t = refl
+step-from x d n h s false true unused t = omega (arith, ap sum t)
+step-from x d n h s false false unused t = omega (arith, ap sum t)
 
 counted-from : (f : ℕ) (w : Bool) (x : ℕ) (h : List Step) → countAll f w x h ≡ from x h (lastUse f w h)
 counted-from f w x [] = omega arith
 counted-from f w x (s ∷ h) =
     counted-from f (entireAsked w s) _ h
-    ∙ step-from x (durationIn (s .event)) (secondsIn (s .event)) [] h s (usesDuration f w s) (counted s) (lastUse f (entireAsked w s) h) refl
+    ∙ step-from x (durationIn (s .event)) (secondsIn (s .event)) h s (usesDuration f w s) (counted s) (lastUse f (entireAsked w s) h) refl
 
 from-nothing : (h : List Step) (u : Use) → from 0 h u ≡ secondsBy h u
 from-nothing h unused = omega arith
@@ -497,7 +494,8 @@ unused-answered h (used d since) e = cc
 -- Where the history used no Duration, called and far together are the answered seconds.
 pub destination-answered : (f : ℕ) (own : Number) → openingThere f own .number ≡ 0 → (es : List Event) →
     noDuration f (history (openingThere f own .call) es) ≡ true →
-    run (openingThere f own .call) es .meters .called + run (openingThere f own .call) es .meters .far ≡ answered (history (openingThere f own .call) es)
+    run (openingThere f own .call) es .meters .called + run (openingThere f own .call) es .meters .far
+    ≡ answered (history (openingThere f own .call) es)
 destination-answered f own e es n =
     let h : List Step = history (openingThere f own .call) es in
     destination-seconds f own e es ∙ unused-answered h (lastUse f false h) n

@@ -178,9 +178,12 @@ kinds h e Iam = left (h Iam) _ (right (h Asks) _ (right (h Opens) _ e))
 kinds h e Answer = left (h Answer) _ (right (h Iam) _ (right (h Asks) _ (right (h Opens) _ e)))
 kinds h e Rel = left (h Rel) _ (right (h Answer) _ (right (h Iam) _ (right (h Asks) _ (right (h Opens) _ e))))
 kinds h e Fac = left (h Fac) _ (right (h Rel) _ (right (h Answer) _ (right (h Iam) _ (right (h Asks) _ (right (h Opens) _ e)))))
-kinds h e Tells = left (h Tells) _ (right (h Fac) _ (right (h Rel) _ (right (h Answer) _ (right (h Iam) _ (right (h Asks) _ (right (h Opens) _ e))))))
-kinds h e Expires = left (h Expires) _ (right (h Tells) _ (right (h Fac) _ (right (h Rel) _ (right (h Answer) _ (right (h Iam) _ (right (h Asks) _ (right (h Opens) _ e)))))))
-kinds h e Passes = right (h Expires) _ (right (h Tells) _ (right (h Fac) _ (right (h Rel) _ (right (h Answer) _ (right (h Iam) _ (right (h Asks) _ (right (h Opens) _ e)))))))
+kinds h e Tells = left (h Tells) _ (right (h Fac) _ (right (h Rel) _ (right (h Answer) _ (right (h Iam) _
+    (right (h Asks) _ (right (h Opens) _ e))))))
+kinds h e Expires = left (h Expires) _ (right (h Tells) _ (right (h Fac) _ (right (h Rel) _ (right (h Answer) _
+    (right (h Iam) _ (right (h Asks) _ (right (h Opens) _ e)))))))
+kinds h e Passes = right (h Expires) _ (right (h Tells) _ (right (h Fac) _ (right (h Rel) _ (right (h Answer) _
+    (right (h Iam) _ (right (h Asks) _ (right (h Opens) _ e)))))))
 
 module _ (g : Kind → Row → Bool) (t : Kind → Row) (o : Tried (g Opens) (t Opens)) (a : Tried (g Asks) (t Asks)) (i : Tried (g Iam) (t Iam))
     (w : Tried (g Answer) (t Answer)) (r : Tried (g Rel) (t Rel)) (f : Tried (g Fac) (t Fac)) (d : Tried (g Tells) (t Tells))
@@ -207,52 +210,89 @@ module _ (g : Kind → Row → Bool) (t : Kind → Row) (o : Tried (g Opens) (t 
 
 module _ (g : Kind → Row → Bool) (e : Cue) where
   abbrev unopened : Place g (λ (k : Kind). unopenedOf k e)
-  unopened = table g (λ k. unopenedOf k e) one one one one one one one one one
+  unopened =
+      table g (λ k. unopenedOf k e) one one one one one one one one one
 
   abbrev originatingNull : Place g (λ (k : Kind). originatingNullOf k e)
-  originatingNull = table g (λ k. originatingNullOf k e) one (either (e .asked .basic) one (either (e .asked .casea) one one)) one one one one one one one
+  originatingNull =
+      table g (λ k. originatingNullOf k e) one (either (e .asked .basic) one (either (e .asked .casea) one one)) one one one one one one
+      one
 
   abbrev originatingSetupIdle : Place g (λ (k : Kind). originatingSetupIdleOf k e)
-  originatingSetupIdle = table g (λ k. originatingSetupIdleOf k e) one one one (either (e .heard .alone) one one) one (either (e .heard .invokecalled) one one) (either (e .told .clears) one one) one one
+  originatingSetupIdle =
+      table g (λ k. originatingSetupIdleOf k e) one one one (either (e .heard .alone) one one) one
+      (either (e .heard .invokecalled) one one) (either (e .told .clears) one one) one one
 
   abbrev waitSetup : Place g (λ (k : Kind). waitSetupOf k e)
-  waitSetup = table g (λ k. waitSetupOf k e) one one one (either (e .heard .resultsetup) one (either (e .heard .alone) one one)) (either (e .heard .failure) one (either (e .heard .rejection) one (either (e .heard .alone) one one))) one (either (e .told .clears) one one) one one
+  waitSetup =
+      table g (λ k. waitSetupOf k e) one one one (either (e .heard .resultsetup) one (either (e .heard .alone) one one))
+      (either (e .heard .failure) one (either (e .heard .rejection) one (either (e .heard .alone) one one))) one
+      (either (e .told .clears) one one) one one
 
   abbrev originatingWaitAnswer : Place g (λ (k : Kind). originatingWaitAnswerOf k e)
-  originatingWaitAnswer = table g (λ k. originatingWaitAnswerOf k e) one one one (either (e .heard .alone) one one) one one (either (e .told .clears) one one) one one
+  originatingWaitAnswer =
+      table g (λ k. originatingWaitAnswerOf k e) one one one (either (e .heard .alone) one one) one one (either (e .told .clears) one one)
+      one one
 
   abbrev originatingAnsweredIdle : Place g (λ (k : Kind). originatingAnsweredIdleOf k e)
-  originatingAnsweredIdle = table g (λ k. originatingAnsweredIdleOf k e) one (either (e .asked .caseb) one one) one one one (either (e .heard .invokecalled) one one) (either (e .told .clears) one one) one one
+  originatingAnsweredIdle =
+      table g (λ k. originatingAnsweredIdleOf k e) one (either (e .asked .caseb) one one) one one one
+      (either (e .heard .invokecalled) one one) (either (e .told .clears) one one) one one
 
   abbrev waitActive : Place g (λ (k : Kind). waitActiveOf k e)
-  waitActive = table g (λ k. waitActiveOf k e) one (either (e .asked .reversal) one one) one one one (either (e .heard .invoke) one (either (e .heard .resultactive) one (either (e .heard .failure) one (either (e .heard .rejection) one (either (e .heard .alone) one one))))) (either (e .told .clears) one one) one one
+  waitActive =
+      table g (λ k. waitActiveOf k e) one (either (e .asked .reversal) one one) one one one
+      (either (e .heard .invoke) one (either (e .heard .resultactive) one (either (e .heard .failure) one
+      (either (e .heard .rejection) one (either (e .heard .alone) one one))))) (either (e .told .clears) one one) one one
 
   abbrev active : Place g (λ (k : Kind). activeOf k e)
-  active = table g (λ k. activeOf k e) one (either (e .asked .reversal) one one) one one one (either (e .heard .invoke) one one) (either (e .told .clears) one one) one one
+  active =
+      table g (λ k. activeOf k e) one (either (e .asked .reversal) one one) one one one (either (e .heard .invoke) one one)
+      (either (e .told .clears) one one) one one
 
   abbrev destinationNull : Place g (λ (k : Kind). destinationNullOf k e)
-  destinationNull = table g (λ k. destinationNullOf k e) one one (either (e .heard .alone) one (either (e .heard .invokesetup) one one)) one one one one one one
+  destinationNull =
+      table g (λ k. destinationNullOf k e) one one (either (e .heard .alone) one (either (e .heard .invokesetup) one one)) one one one one
+      one one
 
   abbrev destinationSetupIdle : Place g (λ (k : Kind). destinationSetupIdleOf k e)
-  destinationSetupIdle = table g (λ k. destinationSetupIdleOf k e) one one one one one one (either (e .told .answers) one (either (e .told .clears) one one)) one one
+  destinationSetupIdle =
+      table g (λ k. destinationSetupIdleOf k e) one one one one one one (either (e .told .answers) one (either (e .told .clears) one one))
+      one one
 
   abbrev waitSetupConf : Place g (λ (k : Kind). waitSetupConfOf k e)
-  waitSetupConf = table g (λ k. waitSetupConfOf k e) one one one one one one (either (e .told .accepts) one (either (e .told .refuses) one (either (e .told .rejects) one (either (e .told .clears) one (either (e .told .answers) one one))))) one one
+  waitSetupConf =
+      table g (λ k. waitSetupConfOf k e) one one one one one one
+      (either (e .told .accepts) one (either (e .told .refuses) one (either (e .told .rejects) one (either (e .told .clears) one
+      (either (e .told .answers) one one))))) one one
 
   abbrev setupWaitCalled : Place g (λ (k : Kind). setupWaitCalledOf k e)
-  setupWaitCalled = table g (λ k. setupWaitCalledOf k e) one one one one one (either (e .heard .resultcalled) one (either (e .heard .failure) one (either (e .heard .rejection) one one))) (either (e .told .clears) one one) one one
+  setupWaitCalled =
+      table g (λ k. setupWaitCalledOf k e) one one one one one
+      (either (e .heard .resultcalled) one (either (e .heard .failure) one (either (e .heard .rejection) one one)))
+      (either (e .told .clears) one one) one one
 
   abbrev destinationWaitAnswer : Place g (λ (k : Kind). destinationWaitAnswerOf k e)
-  destinationWaitAnswer = table g (λ k. destinationWaitAnswerOf k e) one one one one one one (either (e .told .answers) one (either (e .told .clears) one one)) one one
+  destinationWaitAnswer =
+      table g (λ k. destinationWaitAnswerOf k e) one one one one one one
+      (either (e .told .answers) one (either (e .told .clears) one one)) one one
 
   abbrev destinationAnsweredIdle : Place g (λ (k : Kind). destinationAnsweredIdleOf k e)
-  destinationAnsweredIdle = table g (λ k. destinationAnsweredIdleOf k e) one (either (e .asked .caseb) one (either (e .asked .casec) one one)) one one one (either (e .heard .invokeactive) one one) (either (e .told .clears) one one) one one
+  destinationAnsweredIdle =
+      table g (λ k. destinationAnsweredIdleOf k e) one (either (e .asked .caseb) one (either (e .asked .casec) one one)) one one one
+      (either (e .heard .invokeactive) one one) (either (e .told .clears) one one) one one
 
   abbrev waitActiveConf : Place g (λ (k : Kind). waitActiveConfOf k e)
-  waitActiveConf = table g (λ k. waitActiveConfOf k e) one (either (e .asked .reversal) one one) one one one (either (e .heard .invoke) one one) (either (e .told .accepts) one (either (e .told .refuses) one (either (e .told .rejects) one (either (e .told .clears) one one)))) one one
+  waitActiveConf =
+      table g (λ k. waitActiveConfOf k e) one (either (e .asked .reversal) one one) one one one (either (e .heard .invoke) one one)
+      (either (e .told .accepts) one (either (e .told .refuses) one (either (e .told .rejects) one (either (e .told .clears) one one))))
+      one one
 
   abbrev answeredWaitCalled : Place g (λ (k : Kind). answeredWaitCalledOf k e)
-  answeredWaitCalled = table g (λ k. answeredWaitCalledOf k e) one one one one one (either (e .heard .resultcalled) one (either (e .heard .failure) one (either (e .heard .rejection) one one))) (either (e .told .clears) one one) one one
+  answeredWaitCalled =
+      table g (λ k. answeredWaitCalledOf k e) one one one one one
+      (either (e .heard .resultcalled) one (either (e .heard .failure) one (either (e .heard .rejection) one one)))
+      (either (e .told .clears) one one) one one
 
   abbrev here : {t : Kind → Row} → Place g t → Tried (g (e .kind)) (t (e .kind))
   here p = record { test = p .test; law = λ h. p .law h (e .kind) }
@@ -326,9 +366,12 @@ rev h e WaitSetup = left (h WaitSetup) _ (right (h Idle) _ e)
 rev h e WaitActive = left (h WaitActive) _ (right (h WaitSetup) _ (right (h Idle) _ e))
 rev h e WaitAnswer = left (h WaitAnswer) _ (right (h WaitActive) _ (right (h WaitSetup) _ (right (h Idle) _ e)))
 rev h e Active = left (h Active) _ (right (h WaitAnswer) _ (right (h WaitActive) _ (right (h WaitSetup) _ (right (h Idle) _ e))))
-rev h e WaitSetupConf = left (h WaitSetupConf) _ (right (h Active) _ (right (h WaitAnswer) _ (right (h WaitActive) _ (right (h WaitSetup) _ (right (h Idle) _ e)))))
-rev h e WaitActiveConf = left (h WaitActiveConf) _ (right (h WaitSetupConf) _ (right (h Active) _ (right (h WaitAnswer) _ (right (h WaitActive) _ (right (h WaitSetup) _ (right (h Idle) _ e))))))
-rev h e WaitCalled = right (h WaitActiveConf) _ (right (h WaitSetupConf) _ (right (h Active) _ (right (h WaitAnswer) _ (right (h WaitActive) _ (right (h WaitSetup) _ (right (h Idle) _ e))))))
+rev h e WaitSetupConf = left (h WaitSetupConf) _ (right (h Active) _ (right (h WaitAnswer) _
+    (right (h WaitActive) _ (right (h WaitSetup) _ (right (h Idle) _ e)))))
+rev h e WaitActiveConf = left (h WaitActiveConf) _ (right (h WaitSetupConf) _ (right (h Active) _
+    (right (h WaitAnswer) _ (right (h WaitActive) _ (right (h WaitSetup) _ (right (h Idle) _ e))))))
+rev h e WaitCalled = right (h WaitActiveConf) _ (right (h WaitSetupConf) _ (right (h Active) _
+    (right (h WaitAnswer) _ (right (h WaitActive) _ (right (h WaitSetup) _ (right (h Idle) _ e))))))
 
 -- ---- THE LAW
 
@@ -346,7 +389,8 @@ abbrev pub everywhere : Test → Cue → Terms → Bool → Bool → Bool
 everywhere f e t a b = everyRole (λ r. everyPhase (λ p. everyRev (λ s. walk (rowTest f t r (at p s a b)) e r p s .test)))
 
 -- a test that holds everywhere holds of the plan that any event finds
-pub found : (f : Test) → ((e : Cue) (t : Terms) (a b : Bool) → everywhere f e t a b ≡ true) → (r : Role) (now : Stand) (e : Cue) (t : Terms) →
+pub found : (f : Test) → ((e : Cue) (t : Terms) (a b : Bool) → everywhere f e t a b ≡ true) →
+    (r : Role) (now : Stand) (e : Cue) (t : Terms) →
     f r now (e .kind) (planOf (rowForOf r (now .phase) (now .rev) e) t) ≡ true
 found f h r now e t =
     let k = rev (λ s. walk (rowTest f t r (at (now .phase) s (now .agreed) (now .rest))) e r (now .phase) s .test)
@@ -360,7 +404,8 @@ found f h r now e t =
 
 -- the plan for an event at a call
 abbrev pub planFor : Call → Event → Plan
-planFor c e = planOf (rowForOf (c .side .role) (c .stand .phase) (c .stand .rev) (cueOf (readOf e))) (termsOf (c .side .flags) (c .stand) (readOf e))
+planFor c e =
+    planOf (rowForOf (c .side .role) (c .stand .phase) (c .stand .rev) (cueOf (readOf e))) (termsOf (c .side .flags) (c .stand) (readOf e))
 
 pub holds : (f : Test) → ((e : Cue) (t : Terms) (a b : Bool) → everywhere f e t a b ≡ true) → (c : Call) (e : Event) →
     f (c .side .role) (c .stand) (readOf e .kind) (planFor c e) ≡ true
@@ -378,8 +423,8 @@ abbrev unlikeNine : Test
 unlikeNine r now k p = not (eqb (p .number) 9)
 
 -- 9 and 3 are refusals; else the row decides
-module _ (P : Outcome → Type 0) (c : Call) (e : Event) (nine : validOf c ≡ false → P (refusedOf 9 c)) (three : validOf c ≡ true → P (refusedOf 3 c))
-    (takes : validOf c ≡ true → eventOk e ≡ true → P (takesOf c e)) where
+module _ (P : Outcome → Type 0) (c : Call) (e : Event) (nine : validOf c ≡ false → P (refusedOf 9 c))
+    (three : validOf c ≡ true → P (refusedOf 3 c)) (takes : validOf c ≡ true → eventOk e ≡ true → P (takesOf c e)) where
   in-range : validOf c ≡ true → (b : Bool) → eventOk e ≡ b → P (ifInRange b c e)
   in-range v true o = takes v o
   in-range v false o = three v

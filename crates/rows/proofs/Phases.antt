@@ -8,7 +8,7 @@ use lib.Dec.{eqb, leb}
 use borrow.Author.Tests.{leb-true}
 use Rattle.rows.specs.Bill.{isAnswered}
 use Rattle.rows.specs.Find.{when, destinationSetupOf, rowForOf}
-use Rattle.rows.specs.Perform.{standOf, refusedOf, followsOf}
+use Rattle.rows.specs.Perform.{standOf}
 use Rattle.rows.specs.Promises.{placeIn, isOpening, isMessage, isWord, answersAt}
 use Rattle.rows.specs.Read.{kindBy, readOf, cueOf, termsOf}
 use Rattle.rows.specs.Rows.{planOf}
@@ -18,7 +18,6 @@ use Rattle.rows.specs.declared.Event.{Event}
 use Rattle.rows.specs.declared.Event.the-variants.{Opening, Ask, Received, FromAccess, Expiry, Time}
 use Rattle.rows.specs.declared.Kind.{Kind}
 use Rattle.rows.specs.declared.Kind.the-variants.{Opens, Asks, Iam, Answer, Rel, Fac, Tells, Expires, Passes}
-use Rattle.rows.specs.declared.Message.{Message}
 use Rattle.rows.specs.declared.Outcome.{Outcome}
 use Rattle.rows.specs.declared.Phase.{Phase}
 use Rattle.rows.specs.declared.Phase.the-variants.{Unopened, Null, Setup, Answered, Cleared}
@@ -30,7 +29,7 @@ use Rattle.rows.specs.declared.Role.the-variants.{Originating, Destinati
 use Rattle.rows.specs.declared.Row.{Row}
 use Rattle.rows.specs.declared.Stand.{Stand}
 use Rattle.rows.specs.declared.Terms.{Terms}
-use Rattle.rows.proofs.Found.{left, right, clash, implies, so, Test, everywhere, planFor, holds, Applied, stepped}
+use Rattle.rows.proofs.Found.{left, right, clash, implies, so, Test, holds, stepped}
 
 -- ---- Kinds of events, and the tests of the promises
 
@@ -196,7 +195,8 @@ module _ (t : Terms) (a b : Bool) where
   leads s x = isAnswered (after (record { phase = Setup; rev = s; agreed = a; rest = b }) (planOf x t))
 
   -- the own access's word k, where no other event leads there
-  by-word : (k : ℕ) (s : RevState) → ((w n : ℕ) → leads s (destinationSetupOf s (cueOf (readOf (FromAccess w n)))) ≡ true → eqb w k ≡ true) →
+  by-word : (k : ℕ) (s : RevState) →
+      ((w n : ℕ) → leads s (destinationSetupOf s (cueOf (readOf (FromAccess w n)))) ≡ true → eqb w k ≡ true) →
       (e : Event) → isTells (readOf e .kind) ≡ true → leads s (destinationSetupOf s (cueOf (readOf e))) ≡ true → isWord k e ≡ true
   by-word k s f (Opening r g n) h l = h
   by-word k s f (Ask q n) h l = h

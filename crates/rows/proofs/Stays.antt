@@ -4,12 +4,12 @@
 use mathlib.Core.Path.{_≡_, refl, sym, _∙_, ap, subst}
 use mathlib.Core.Bool.{Bool, true, false, _&&_, _||_, not}
 use mathlib.Core.List.{List, [], _∷_}
-use Prim.Native.Nat.{ℕ, _+_}
+use Prim.Native.Nat.{ℕ}
 use native.Mathlib.Omega.{arith}
 use lib.Dec.{eqb, leb}
-use borrow.Author.Tests.{eqb-true, eq-eqb, le-leb, not-false}
+use borrow.Author.Tests.{eqb-true, le-leb}
 use Rattle.meters.proofs.Laws
-use Rattle.meters.proofs.Laws.{Gave, gave, Moved, moved}
+use Rattle.meters.proofs.Laws.{Gave, gave, moved}
 use Rattle.meters.specs.Meters.{limit, withinOf, paidByOf, giveOf, entireOf, receivedOf, changeOf}
 use Rattle.meters.specs.declared.Change.{Change}
 use Rattle.meters.specs.declared.Change.the-variants.{Keep, CallerPays, CalledPays, FarPays, NobodyPays, EntireToCalled, EntireToFar, TimePasses, DurationReceived}
@@ -18,7 +18,7 @@ use Rattle.meters.specs.declared.Meters.{Meters}
 use Rattle.meters.specs.declared.Payer.{Payer}
 use Rattle.meters.specs.declared.Payer.the-variants.{Nobody, Caller, Called, Far}
 use Rattle.rows.specs.History.{history}
-use Rattle.rows.specs.Perform.{standOf, orHeld, roleBy, sideOf, followsOf}
+use Rattle.rows.specs.Perform.{standOf, orHeld, roleBy, sideOf}
 use Rattle.rows.specs.Promises.{noneIs}
 use Rattle.rows.specs.Read.{bit, readOf}
 use Rattle.rows.specs.Step.{unopenedCall, stepOf}
@@ -26,13 +26,10 @@ use Rattle.rows.specs.Valid.{placedOf, inRange, unmetered, payerNobody, 
 use Rattle.rows.specs.declared.Call.{Call}
 use Rattle.rows.specs.declared.Event.{Event}
 use Rattle.rows.specs.declared.Event.the-variants.{Opening, Ask, Received, FromAccess, Expiry, Time}
-use Rattle.rows.specs.declared.Kind.{Kind}
-use Rattle.rows.specs.declared.Message.{Message}
 use Rattle.rows.specs.declared.Number.{Number}
 use Rattle.rows.specs.declared.Outcome.{Outcome}
 use Rattle.rows.specs.declared.Phase.{Phase}
 use Rattle.rows.specs.declared.Phase.the-variants.{Unopened, Null, Setup, Answered, Cleared}
-use Rattle.rows.specs.declared.Plan.{Plan}
 use Rattle.rows.specs.declared.Reading.{Reading}
 use Rattle.rows.specs.declared.Register.{Register}
 use Rattle.rows.specs.declared.Register.the-variants.{AsHeld, FromOpening, CalledNumber, CallingNumber}
@@ -41,7 +38,7 @@ use Rattle.rows.specs.declared.Role.{Role}
 use Rattle.rows.specs.declared.Role.the-variants.{Originating, Destination}
 use Rattle.rows.specs.declared.Side.{Side}
 use Rattle.rows.specs.declared.Stand.{Stand}
-use Rattle.rows.proofs.Found.{left, right, clash, implies, so, Test, everywhere, planFor, holds, Applied, stepped}
+use Rattle.rows.proofs.Found.{left, right, clash, implies, so, Test, planFor, holds, stepped}
 
 both : {a b : Bool} → a ≡ true → b ≡ true → (a && b) ≡ true
 both {a} {b} p q = ap (λ (x : Bool). x && b) p ∙ q
@@ -93,11 +90,13 @@ registers FromOpening s c h = both (c .own) refl
 registers CalledNumber s {r} c h =
     let n = right (inRange (s .own)) _ h in
     both (left (inRange (s .own)) _ h)
-    (both (left (inRange (s .calling)) _ n) (either (leb 1 (r .called .count)) (r .called) (s .called) (c .called) (right (inRange (s .calling)) _ n)))
+    (both (left (inRange (s .calling)) _ n)
+    (either (leb 1 (r .called .count)) (r .called) (s .called) (c .called) (right (inRange (s .calling)) _ n)))
 registers CallingNumber s {r} c h =
     let n = right (inRange (s .own)) _ h in
     both (left (inRange (s .own)) _ h)
-    (both (either (leb 1 (r .calling .count)) (r .calling) (s .calling) (c .calling) (left (inRange (s .calling)) _ n)) (right (inRange (s .calling)) _ n))
+    (both (either (leb 1 (r .calling .count)) (r .calling) (s .calling) (c .calling) (left (inRange (s .calling)) _ n))
+    (right (inRange (s .calling)) _ n))
 
 -- ---- Meters: what 9 asks of them, before the answer, while they talk and after
 
@@ -214,7 +213,7 @@ same-age talking u h = is-talking u h
 same-age over u h = is-over u h
 
 -- a tick at a destination is not the caller's
-not-callers : (p : Payer) (s : ℕ) → payerThere p ≡ true → Laws.share Caller p s ≡ 0
+pub not-callers : (p : Payer) (s : ℕ) → payerThere p ≡ true → Laws.share Caller p s ≡ 0
 not-callers Nobody s h = refl
 not-callers Caller s h = cc
 not-callers Called s h = refl
@@ -256,7 +255,11 @@ ticks r m n s z h =
 receives : (r : Role) (t : Age) (m n : Meters) (s : ℕ) → Sound r t m → receivedOf m s ≡ Done n → Left r Called n
 receives r t m n s z h =
     let g : Gave _ n Called s = gave _ n s h in
-    record { caller = same-caller r m n (omega (arith, g .caller)) (no-caller r t m (z .metered)); within = le-leb _ _ (g .bound); payer = g .payer }
+    record {
+      caller = same-caller r m n (omega (arith, g .caller)) (no-caller r t m (z .metered));
+      within = le-leb _ _ (g .bound);
+      payer = g .payer;
+    }
 
 there : (r : Role) (p : Payer) → payerThere p ≡ true → payingThere r p ≡ true
 there Originating p h = refl
@@ -279,7 +282,8 @@ ends r n over i l = record { metered = l .caller; within = l .within; paying = a
 keeps : (r : Role) (t u : Age) {m : Meters} → sameAge t u ≡ true → Sound r t m → Sound r u m
 keeps r t u {m} i z = subst (λ (v : Age). Sound r v m) (sym (same-age t u i)) z
 
-changes : (r : Role) (t u : Age) (x : Change) (m n : Meters) (s : ℕ) → turns r t u x ≡ true → Sound r t m → changeOf x m s ≡ Done n → Sound r u n
+changes : (r : Role) (t u : Age) (x : Change) (m n : Meters) (s : ℕ) → turns r t u x ≡ true → Sound r t m → changeOf x m s ≡ Done n →
+    Sound r u n
 changes r t u Keep m n s i z h = let e : m ≡ n = cc in subst (λ (k : Meters). Sound r u k) e (keeps r t u i z)
 changes r t u CallerPays m n s i z h =
     talks r Caller n u (right (isOriginating r) _ i) (caller-there r (left (isOriginating r) _ i)) (pays r t Caller m n z h)
@@ -337,7 +341,8 @@ kept-before r t u EntireToFar i j k = absurd (clash k)
 kept-before r t u TimePasses i j k = absurd (clash k)
 kept-before r t u DurationReceived i j k = absurd (clash k)
 
-in-either : (p : Phase) (s : RevState) (b : Bool) → (placedOf Originating p s && placedOf Destination p s) ≡ true → placedOf (roleBy b) p s ≡ true
+in-either : (p : Phase) (s : RevState) (b : Bool) → (placedOf Originating p s && placedOf Destination p s) ≡ true →
+    placedOf (roleBy b) p s ≡ true
 in-either p s true h = right (placedOf Originating p s) _ h
 in-either p s false h = left (placedOf Originating p s) _ h
 
@@ -357,7 +362,8 @@ good c h =
       sound =
           record {
             metered =
-                sym (metered (c .side .role) (c .stand .phase) (c .meters)) ∙ left (meteredOf (c .side .role) (c .stand .phase) (c .meters)) _ k;
+                sym (metered (c .side .role) (c .stand .phase) (c .meters))
+                ∙ left (meteredOf (c .side .role) (c .stand .phase) (c .meters)) _ k;
             within = left (withinOf (c .meters)) _ l;
             paying =
                 sym (paying (c .side .role) (c .stand .phase) (c .meters .payer))
@@ -376,7 +382,8 @@ module _ (s : Side) (now to : Stand) (m n : Meters) (x : Change) (e : Event) (ok
     (h : changeOf x m (readOf e .seconds) ≡ Done n) where
   -- the role stays
   stays : (y : Register) → sideOf y s (readOf e) .role ≡ s .role →
-      (placedOf (s .role) (to .phase) (to .rev) && turns (s .role) (ageOf (now .phase)) (ageOf (to .phase)) x) ≡ true → Good (sideOf y s (readOf e)) to n
+      (placedOf (s .role) (to .phase) (to .rev) && turns (s .role) (ageOf (now .phase)) (ageOf (to .phase)) x) ≡ true →
+      Good (sideOf y s (readOf e)) to n
   stays y q f =
       record {
         placed =
@@ -416,7 +423,8 @@ call-stays c e v =
     stepped (λ (o : Outcome). validOf (o .call) ≡ true) c e (λ w. v) (λ n w p q. v)
     (λ n d.
     made _ _ n
-    (follows (c .side) (c .stand) (standOf (planFor c e .next) (c .stand)) (c .meters) n (planFor c e .change) e (d .ranged) (good c v) (d .meters)
+    (follows (c .side) (c .stand) (standOf (planFor c e .next) (c .stand)) (c .meters) n (planFor c e .change) e (d .ranged) (good c v)
+    (d .meters)
     (planFor c e .register) (so _ _ (holds fitting (λ e′ t a b. refl) c e) (d .row))))
 
 -- The call before its opening is one that step takes.

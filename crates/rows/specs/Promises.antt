@@ -9,7 +9,6 @@ use Rattle.rows.specs.Bill.{pick, Step, accepted, isAnswered, isRev, ans
 use Rattle.rows.specs.Step.{unopenedCall, stepOf}
 use Rattle.rows.specs.declared.Event.{Event}
 use Rattle.rows.specs.declared.Event.the-variants.{Opening, Ask, Received, FromAccess, Expiry, Time}
-use Rattle.rows.specs.declared.Message.{Message}
 use Rattle.rows.specs.declared.Number.{Number}
 use Rattle.rows.specs.declared.Outcome.{Outcome}
 use Rattle.rows.specs.declared.Phase.{Phase}
