@@ -504,3 +504,30 @@ destination-answered f own e es n =
 pub destination-caller : (f : ℕ) (own : Number) → openingThere f own .number ≡ 0 → (es : List Event) →
     run (openingThere f own .call) es .meters .caller ≡ 0
 destination-caller f own e es = from-opening f own e es .caller
+
+-- Such an opening is one whose fields are in range: flags to 31, an own number.
+pub opens-there-in-range : (f : ℕ) (own : Number) → eventOk (Opening 1 f own) ≡ true → openingThere f own .number ≡ 0
+opens-there-in-range f own e = ap (λ (b : Bool). ifInRange b unopenedCall (Opening 1 f own) .number) e
+
+-- ---- Worked histories: an IAM, an answer, 40 s; a request; a result with transfer and Duration 35; 20 s
+
+abbrev room : Number
+room = record { count = 7; value = 5550123 }
+
+abbrev none : Number
+none = record { count = 0; value = 0 }
+
+abbrev requested : ℕ → List Step
+requested q =
+    history (openingThere 9 room .call)
+    (Received (record { kind = 1; cause = 0; component = Absent 0; parts = 0; calling = none; called = none; duration = 0 })
+    ∷ FromAccess 5 0 ∷ Time 40 ∷ Ask q none
+    ∷ Received (record { kind = 5; cause = 0; component = Result 3; parts = 86; calling = room; called = none; duration = 35 })
+    ∷ Time 20 ∷ [])
+
+-- case C: the Duration and what came after it; case B: all the answered seconds
+entire-call : (secondsThere 9 (requested 3) ≡ 55) × (noDuration 9 (requested 3) ≡ false)
+entire-call = (refl, refl)
+
+rest-of-call : (secondsThere 9 (requested 2) ≡ 60) × (noDuration 9 (requested 2) ≡ true)
+rest-of-call = (refl, refl)

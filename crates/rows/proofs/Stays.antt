@@ -17,7 +17,7 @@ use Rattle.meters.specs.declared.Metered.the-variants.{Done}
 use Rattle.meters.specs.declared.Meters.{Meters}
 use Rattle.meters.specs.declared.Payer.{Payer}
 use Rattle.meters.specs.declared.Payer.the-variants.{Nobody, Caller, Called, Far}
-use Rattle.rows.specs.History.{history}
+use Rattle.rows.specs.History.{run, history}
 use Rattle.rows.specs.Perform.{standOf, orHeld, roleBy, sideOf}
 use Rattle.rows.specs.Promises.{noneIs}
 use Rattle.rows.specs.Read.{bit, readOf}
@@ -426,6 +426,11 @@ call-stays c e v =
     (follows (c .side) (c .stand) (standOf (planFor c e .next) (c .stand)) (c .meters) n (planFor c e .change) e (d .ranged) (good c v)
     (d .meters)
     (planFor c e .register) (so _ _ (holds fitting (λ e′ t a b. refl) c e) (d .row))))
+
+-- So is every call that a list of events leads to.
+pub calls-stay : (c : Call) (es : List Event) → validOf c ≡ true → validOf (run c es) ≡ true
+calls-stay c [] v = v
+calls-stay c (e ∷ es) v = calls-stay (stepOf c e .call) es (call-stays c e v)
 
 -- The call before its opening is one that step takes.
 pub unopened-valid : validOf unopenedCall ≡ true
