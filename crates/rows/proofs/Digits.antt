@@ -13,10 +13,12 @@ use Rattle.meters.specs.declared.Metered.the-variants.{Done, NoPayer, TooMuch}
 use Rattle.meters.specs.declared.Meters.{Meters}
 use Rattle.rows.specs.History.{run, history}
 use Rattle.rows.specs.Perform.{refusedOf, sideOf, orHeld, settledOf, performIf, performOf, appliesOf}
-use Rattle.rows.specs.Promises.{OtherDigits, the-same, another, sent, Redialled, opening, request, message, access, expiry, time, AllRedialled, no-more, and-then, holding, Renumbered, renumbered, SameAnswer, numbers}
+use Rattle.rows.specs.Promises.{OtherDigits, the-same, another, sent, Redialled, opening, request, message, access, expiry, time}
+use Rattle.rows.specs.Promises.{AllRedialled, no-more, and-then, holding, Renumbered, renumbered, SameAnswer, numbers}
 use Rattle.rows.specs.Read.{bit, errorOf, kindOf, readOf}
 use Rattle.rows.specs.Step.{takesOf, ifInRange, ifCall, stepOf}
-use Rattle.rows.specs.Valid.{inRange, numberThere, numberAbsent, numberIf, componentOk, partsOk, eventOk, placedOf, meteredOf, payingOf, numbersHeld, validOf}
+use Rattle.rows.specs.Valid.{inRange, numberThere, numberAbsent, numberIf, componentOk, partsOk, eventOk, placedOf, meteredOf}
+use Rattle.rows.specs.Valid.{payingOf, numbersHeld, validOf}
 use Rattle.rows.specs.declared.Call.{Call}
 use Rattle.rows.specs.declared.Component.{Component}
 use Rattle.rows.specs.declared.Component.the-variants.{Absent}

@@ -1,9 +1,13 @@
 pub mod Answers
 pub mod Below
+pub mod Destination
 pub mod Digits
+pub mod Found
 pub mod Opened
+pub mod Phases
 pub mod Progress
 pub mod Refusals
 pub mod Reversal
+pub mod Stays
 pub mod Truth
 pub mod Whole

@@ -15,7 +15,8 @@ use Rattle.meters.specs.declared.Payer.{Payer}
 use Rattle.meters.specs.declared.Payer.the-variants.{Nobody, Caller, Called, Far}
 use Rattle.rows.specs.Bill.{bitAt, lowestBit, resultTo, invokeOf, turnedTo}
 use Rattle.rows.specs.Perform.{settledOf, performOf}
-use Rattle.rows.specs.Promises.{sent, holding, isAnswer, isFacility, bare, setupTurns, asksFully, answeredTurns, acceptsFully, calledTurns, setupTold, answeredTold, messageTurns, accessTurns, takesEffect, InEffect}
+use Rattle.rows.specs.Promises.{sent, holding, isAnswer, isFacility, bare, setupTurns, asksFully, answeredTurns, acceptsFully}
+use Rattle.rows.specs.Promises.{calledTurns, setupTold, answeredTold, messageTurns, accessTurns, takesEffect, InEffect}
 use Rattle.rows.specs.Read.{bit, lowest, readOf, interactionBy, modeBy, extentBy, termsOf}
 use Rattle.rows.specs.Rows
 use Rattle.rows.specs.Step.{takesOf, stepOf}
@@ -40,7 +41,8 @@ use Rattle.rows.specs.declared.Plan.{Plan}
 use Rattle.rows.specs.declared.Reading.{Reading}
 use Rattle.rows.specs.declared.Register.the-variants.{AsHeld}
 use Rattle.rows.specs.declared.RevState.{RevState}
-use Rattle.rows.specs.declared.RevState.the-variants.{Idle, WaitSetup, WaitActive, WaitAnswer, Active, WaitSetupConf, WaitActiveConf, WaitCalled}
+use Rattle.rows.specs.declared.RevState.the-variants.{Idle, WaitSetup, WaitActive, WaitAnswer, Active, WaitSetupConf, WaitActiveConf}
+use Rattle.rows.specs.declared.RevState.the-variants.{WaitCalled}
 use Rattle.rows.specs.declared.Role.{Role}
 use Rattle.rows.specs.declared.Role.the-variants.{Originating, Destination}
 use Rattle.rows.specs.declared.Row.the-variants.{TimeCounts}

@@ -5,7 +5,8 @@ use mathlib.Core.Bool.{Bool, true, false, _&&_}
 use mathlib.Core.List.{List, [], _∷_, _++_}
 use Prim.Native.Nat.{ℕ, _+_, _≤_}
 use native.Mathlib.Omega.{arith}
-use Rattle.rows.specs.Bill.{pick, Step, accepted, isAnswered, counted, secondsIn, isRev, Case, Mark, plain, second, reversed, Paid, Took, nothing, took, turns, inEffect, said, waits, mark, marks, reversal, payer, payments, bill}
+use Rattle.rows.specs.Bill.{pick, Step, accepted, isAnswered, counted, secondsIn, isRev, Case, Mark, plain, second, reversed, Paid}
+use Rattle.rows.specs.Bill.{Took, nothing, took, turns, inEffect, said, waits, mark, marks, reversal, payer, payments, bill}
 use Rattle.rows.specs.History.{run, written, history, opening}
 use Rattle.rows.specs.Promises.{reversals, Extends, with-more}
 use Rattle.rows.specs.Step.{stepOf}
@@ -20,7 +21,8 @@ use Rattle.rows.specs.declared.RevState.{RevState}
 use Rattle.rows.specs.declared.RevState.the-variants.{Active}
 use Rattle.rows.proofs.Answers.{guard-9, guard-3}
 use Rattle.rows.proofs.Truth.{differ}
-use Rattle.rows.proofs.Whole.{Known, known, note, noteSeconds, readAll, waiting, Agrees, null, setup, asked-A, asked-D, talks, asked-B, turned, over, keeps, reached, from-opening}
+use Rattle.rows.proofs.Whole.{Known, known, note, noteSeconds, readAll, waiting, Agrees, null, setup, asked-A, asked-D, talks}
+use Rattle.rows.proofs.Whole.{asked-B, turned, over, keeps, reached, from-opening}
 
 -- ---- Who pays now
 

@@ -15,11 +15,16 @@ use Rattle.meters.specs.declared.Metered.the-variants.{Done, NoPayer, TooMuch}
 use Rattle.meters.specs.declared.Meters.{Meters}
 use Rattle.meters.specs.declared.Payer.{Payer}
 use Rattle.meters.specs.declared.Payer.the-variants.{Nobody, Caller, Called, Far}
-use Rattle.rows.specs.Bill.{pick, Step, accepted, isAnswered, secondsIn, counted, times, sum, answered, resultTo, invokeOf, Said, saying, silence, said, Case, caseB, caseC, caseD, Mark, plain, second, reversed, requested, turnsSetup, turnsAnswered, turns, inEffect, isRev, markBy, stillWaits, waitsBy, waits, marks, Took, nothing, took, reversal, turnedTo, covers, payer, payments, bill, allSeconds, same, owed}
-use Rattle.rows.specs.Find.{when, originatingNullOf, originatingSetupIdleOf, waitSetupOf, originatingWaitAnswerOf, originatingAnsweredIdleOf, waitActiveOf, activeOf}
+use Rattle.rows.specs.Bill.{pick, Step, accepted, isAnswered, secondsIn, counted, times, sum, answered, resultTo, invokeOf, Said}
+use Rattle.rows.specs.Bill.{saying, silence, said, Case, caseB, caseC, caseD, Mark, plain, second, reversed, requested, turnsSetup}
+use Rattle.rows.specs.Bill.{turnsAnswered, turns, inEffect, isRev, markBy, stillWaits, waitsBy, waits, marks, Took, nothing, took}
+use Rattle.rows.specs.Bill.{reversal, turnedTo, covers, payer, payments, bill, allSeconds, same, owed}
+use Rattle.rows.specs.Find.{when, originatingNullOf, originatingSetupIdleOf, waitSetupOf, originatingWaitAnswerOf}
+use Rattle.rows.specs.Find.{originatingAnsweredIdleOf, waitActiveOf, activeOf}
 use Rattle.rows.specs.History.{run, written, history, opening}
 use Rattle.rows.specs.Perform.{refusedOf, followsOf, settledOf, performOf}
-use Rattle.rows.specs.Read.{bit, lowest, flagsOf, heardOf, kindBy, kindOf, readOf, errorOf, cueOf, listedOf, interactionBy, modeBy, extentBy, correctBy, termsOf}
+use Rattle.rows.specs.Read.{bit, lowest, flagsOf, heardOf, kindBy, kindOf, readOf, errorOf, cueOf, listedOf, interactionBy, modeBy}
+use Rattle.rows.specs.Read.{extentBy, correctBy, termsOf}
 use Rattle.rows.specs.Rows
 use Rattle.rows.specs.Rows.{planOf}
 use Rattle.rows.specs.Step.{unopenedCall, takesOf, ifInRange, ifCall, stepOf}
@@ -47,7 +52,8 @@ use Rattle.rows.specs.declared.Phase.the-variants.{Unopened, Null, Setup
 use Rattle.rows.specs.declared.Plan.{Plan}
 use Rattle.rows.specs.declared.Reading.{Reading}
 use Rattle.rows.specs.declared.RevState.{RevState}
-use Rattle.rows.specs.declared.RevState.the-variants.{Idle, WaitSetup, WaitActive, WaitAnswer, Active, WaitSetupConf, WaitActiveConf, WaitCalled}
+use Rattle.rows.specs.declared.RevState.the-variants.{Idle, WaitSetup, WaitActive, WaitAnswer, Active, WaitSetupConf, WaitActiveConf}
+use Rattle.rows.specs.declared.RevState.the-variants.{WaitCalled}
 use Rattle.rows.specs.declared.Role.the-variants.{Originating}
 use Rattle.rows.specs.declared.Row.{Row}
 use Rattle.rows.proofs.Answers.{settled, guard-3, guard-9}

@@ -1,0 +1,282 @@
+-- PHASES GO FORWARD: for every call, whatever a host hands in, and every event.
+-- Assumes nothing.
+use mathlib.Core.Path.{_≡_, refl, sym, _∙_, ap, subst}
+use mathlib.Core.Bool.{Bool, true, false, _&&_, _||_, not}
+use Prim.Native.Nat.{ℕ, _≤_}
+use native.Mathlib.Omega.{arith}
+use lib.Dec.{eqb, leb}
+use borrow.Author.Tests.{leb-true}
+use Rattle.rows.specs.Bill.{isAnswered}
+use Rattle.rows.specs.Find.{when, destinationSetupOf, rowForOf}
+use Rattle.rows.specs.Perform.{standOf}
+use Rattle.rows.specs.Promises.{placeIn, isOpening, isMessage, isWord, answersAt}
+use Rattle.rows.specs.Read.{kindBy, readOf, cueOf, termsOf}
+use Rattle.rows.specs.Rows
+use Rattle.rows.specs.Rows.{planOf}
+use Rattle.rows.specs.Step.{stepOf}
+use Rattle.rows.specs.declared.Call.{Call}
+use Rattle.rows.specs.declared.Correctness.{Correctness}
+use Rattle.rows.specs.declared.Correctness.the-variants.{Correct, Incorrect}
+use Rattle.rows.specs.declared.Event.{Event}
+use Rattle.rows.specs.declared.Event.the-variants.{Opening, Ask, Received, FromAccess, Expiry, Time}
+use Rattle.rows.specs.declared.Kind.{Kind}
+use Rattle.rows.specs.declared.Kind.the-variants.{Opens, Asks, Iam, Answer, Rel, Fac, Tells, Expires, Passes}
+use Rattle.rows.specs.declared.Outcome.{Outcome}
+use Rattle.rows.specs.declared.Phase.{Phase}
+use Rattle.rows.specs.declared.Phase.the-variants.{Unopened, Null, Setup, Answered, Cleared}
+use Rattle.rows.specs.declared.Plan.{Plan}
+use Rattle.rows.specs.declared.RevState.{RevState}
+use Rattle.rows.specs.declared.RevState.the-variants.{Idle, WaitSetup, WaitActive, WaitAnswer, Active, WaitSetupConf, WaitActiveConf}
+use Rattle.rows.specs.declared.RevState.the-variants.{WaitCalled}
+use Rattle.rows.specs.declared.Role.{Role}
+use Rattle.rows.specs.declared.Role.the-variants.{Originating, Destination}
+use Rattle.rows.specs.declared.Row.{Row}
+use Rattle.rows.specs.declared.Stand.{Stand}
+use Rattle.rows.specs.declared.Terms.{Terms}
+use Rattle.rows.proofs.Found.{implies, so, Test, holds, stepped}
+use Rattle.rows.proofs.Truth.{differ, left, right}
+
+-- ---- Kinds of events, and the tests of the promises
+
+abbrev isOpens : Kind → Bool
+isOpens Opens = true
+isOpens Asks = false
+isOpens Iam = false
+isOpens Answer = false
+isOpens Rel = false
+isOpens Fac = false
+isOpens Tells = false
+isOpens Expires = false
+isOpens Passes = false
+
+abbrev isAnswer : Kind → Bool
+isAnswer Opens = false
+isAnswer Asks = false
+isAnswer Iam = false
+isAnswer Answer = true
+isAnswer Rel = false
+isAnswer Fac = false
+isAnswer Tells = false
+isAnswer Expires = false
+isAnswer Passes = false
+
+abbrev isTells : Kind → Bool
+isTells Opens = false
+isTells Asks = false
+isTells Iam = false
+isTells Answer = false
+isTells Rel = false
+isTells Fac = false
+isTells Tells = true
+isTells Expires = false
+isTells Passes = false
+
+-- no message is an opening or a word of the own access, and an ANM or CON alone is an answer
+no-message : (i a r : Bool) → isOpens (kindBy i a r) ≡ false
+no-message true a r = refl
+no-message false true r = refl
+no-message false false true = refl
+no-message false false false = refl
+
+no-word : (i a r : Bool) → isTells (kindBy i a r) ≡ false
+no-word true a r = refl
+no-word false true r = refl
+no-word false false true = refl
+no-word false false false = refl
+
+anm-or-con : (i a r : Bool) → isAnswer (kindBy i a r) ≡ true → a ≡ true
+anm-or-con true a r h = cc
+anm-or-con false true r h = refl
+anm-or-con false false true h = cc
+anm-or-con false false false h = cc
+
+opens : (e : Event) → isOpens (readOf e .kind) ≡ isOpening e
+opens (Opening r f n) = refl
+opens (Ask q n) = refl
+opens (Received m) = no-message (eqb (m .kind) 1) (eqb (m .kind) 2 || eqb (m .kind) 3) (eqb (m .kind) 4)
+opens (FromAccess a n) = refl
+opens Expiry = refl
+opens (Time s) = refl
+
+answers : (e : Event) → isAnswer (readOf e .kind) ≡ true → (isMessage 2 e || isMessage 3 e) ≡ true
+answers (Opening r f n) h = h
+answers (Ask q n) h = h
+answers (Received m) h = anm-or-con (eqb (m .kind) 1) (eqb (m .kind) 2 || eqb (m .kind) 3) (eqb (m .kind) 4) h
+answers (FromAccess a n) h = h
+answers Expiry h = h
+answers (Time s) h = h
+
+-- ---- NONE, NULL, SETUP, ANSWERED, CLEARED
+
+abbrev after : Stand → Plan → Phase
+after now p = standOf (p .next) now .phase
+
+abbrev forward : Test
+forward r now k p = implies (eqb (p .number) 0) (implies (not (isOpens k)) (leb (placeIn (now .phase)) (placeIn (after now p))))
+
+-- No event but an opening leads to an earlier phase.
+pub never-falls : (c : Call) (e : Event) → isOpening e ≡ false → placeIn (c .stand .phase) ≤ placeIn (stepOf c e .call .stand .phase)
+never-falls c e h =
+    stepped (λ (o : Outcome). placeIn (c .stand .phase) ≤ placeIn (o .call .stand .phase)) c e
+    (λ v. omega arith) (λ n v p q. omega arith)
+    (λ n d. leb-true _ _ (so _ _ (so _ _ (holds forward (λ e t a b. refl) c e) (d .row)) (ap not (opens e ∙ h))))
+
+top : (p : Phase) → 4 ≤ placeIn p → p ≡ Cleared
+top Unopened h = absurd (omega arith)
+top Null h = absurd (omega arith)
+top Setup h = absurd (omega arith)
+top Answered h = absurd (omega arith)
+top Cleared h = refl
+
+-- CLEARED is left by no event but an opening.
+pub cleared-stays : (c : Call) (e : Event) → isOpening e ≡ false → c .stand .phase ≡ Cleared → stepOf c e .call .stand .phase ≡ Cleared
+cleared-stays c e h p = top _ (subst (λ (x : Phase). placeIn x ≤ placeIn (stepOf c e .call .stand .phase)) p (never-falls c e h))
+
+-- ---- ANSWERED is left to CLEARED
+
+abbrev lasting : Test
+lasting r now k p = implies (eqb (p .number) 0) (implies (isAnswered (now .phase)) (leb 3 (placeIn (after now p))))
+
+past-answered : (p : Phase) → 3 ≤ placeIn p → isAnswered p ≡ false → p ≡ Cleared
+past-answered Unopened h n = absurd (omega arith)
+past-answered Null h n = absurd (omega arith)
+past-answered Setup h n = absurd (omega arith)
+past-answered Answered h n = cc
+past-answered Cleared h n = refl
+
+-- A step by any event that leaves ANSWERED leads to CLEARED.
+pub answered-left : (c : Call) (e : Event) → isAnswered (c .stand .phase) ≡ true → isAnswered (stepOf c e .call .stand .phase) ≡ false →
+    stepOf c e .call .stand .phase ≡ Cleared
+answered-left c e h =
+    stepped (λ (o : Outcome). isAnswered (o .call .stand .phase) ≡ false → o .call .stand .phase ≡ Cleared) c e
+    (λ v i. cc) (λ n v p q i. cc)
+    (λ n d. past-answered _ (leb-true _ _ (so _ _ (so _ _ (holds lasting (λ e t a b. refl) c e) (d .row)) h)))
+
+-- ---- ANSWERED is entered by an answer
+
+-- by a kind of event: the places where an answer is awaited
+abbrev awaited : Role → RevState → Kind → Bool
+awaited Originating Idle k = isAnswer k
+awaited Originating WaitSetup k = isAnswer k
+awaited Originating WaitActive k = false
+awaited Originating WaitAnswer k = isAnswer k
+awaited Originating Active k = false
+awaited Originating WaitSetupConf k = false
+awaited Originating WaitActiveConf k = false
+awaited Originating WaitCalled k = false
+awaited Destination Idle k = isTells k
+awaited Destination WaitSetup k = false
+awaited Destination WaitActive k = false
+awaited Destination WaitAnswer k = isTells k
+awaited Destination Active k = false
+awaited Destination WaitSetupConf k = isTells k
+awaited Destination WaitActiveConf k = false
+awaited Destination WaitCalled k = false
+
+abbrev isSetup : Phase → Bool
+isSetup Unopened = false
+isSetup Null = false
+isSetup Setup = true
+isSetup Answered = false
+isSetup Cleared = false
+
+abbrev entering : Test
+entering r now k p =
+    implies (eqb (p .number) 0)
+    (implies (not (isAnswered (now .phase))) (implies (isAnswered (after now p)) (isSetup (now .phase) && awaited r (now .rev) k)))
+
+-- where a table's first test alone leads to g, it passed
+only : (g : Row → Bool) (b : Bool) (x y : Row) → g y ≡ false → g (when b x y) ≡ true → b ≡ true
+only g true x y h e = refl
+only g false x y h e = sym h ∙ e
+
+neither : (g : Row → Bool) (b : Bool) (x y : Row) → g x ≡ false → g y ≡ false → g (when b x y) ≡ false
+neither g true x y p q = p
+neither g false x y p q = q
+
+module _ (t : Terms) (a b : Bool) where
+  -- the row leads from SETUP to ANSWERED
+  abbrev leads : RevState → Row → Bool
+  leads s x = isAnswered (after (record { phase = Setup; rev = s; agreed = a; rest = b }) (planOf x t))
+
+  -- the own access's word k, where no other event leads there
+  by-word : (k : ℕ) (s : RevState) →
+      ((w n : ℕ) → leads s (destinationSetupOf s (cueOf (readOf (FromAccess w n)))) ≡ true → eqb w k ≡ true) →
+      (e : Event) → isTells (readOf e .kind) ≡ true → leads s (destinationSetupOf s (cueOf (readOf e))) ≡ true → isWord k e ≡ true
+  by-word k s f (Opening r g n) h l = h
+  by-word k s f (Ask q n) h l = h
+  by-word k s f (Received m) h l =
+      sym (no-word (eqb (m .kind) 1) (eqb (m .kind) 2 || eqb (m .kind) 3) (eqb (m .kind) 4)) ∙ h
+  by-word k s f (FromAccess w n) h l = f w n l
+  by-word k s f Expiry h l = h
+  by-word k s f (Time x) h l = h
+
+  -- a refusal leads elsewhere, whatever its error
+  refused : (k : Correctness) (x y : ℕ) →
+      isAnswered (after (record { phase = Setup; rev = WaitSetupConf; agreed = a; rest = b }) (Rows.setupRefused k x y)) ≡ false
+  refused Correct x y = refl
+  refused Incorrect x y = refl
+
+  by-answer : (r : Role) (s : RevState) (e : Event) → awaited r s (readOf e .kind) ≡ true →
+      leads s (rowForOf r Setup s (cueOf (readOf e))) ≡ true → answersAt r s e ≡ true
+  by-answer Originating Idle e h l = answers e h
+  by-answer Originating WaitSetup e h l = answers e h
+  by-answer Originating WaitActive e h l = h
+  by-answer Originating WaitAnswer e h l = answers e h
+  by-answer Originating Active e h l = h
+  by-answer Originating WaitSetupConf e h l = h
+  by-answer Originating WaitActiveConf e h l = h
+  by-answer Originating WaitCalled e h l = h
+  by-answer Destination Idle e h l =
+      by-word 5 Idle (λ w n. only (leads Idle) (eqb w 5) _ _ (neither (leads Idle) (eqb w 4) _ _ refl refl)) e h l
+  by-answer Destination WaitSetup e h l = h
+  by-answer Destination WaitActive e h l = h
+  by-answer Destination WaitAnswer e h l =
+      by-word 5 WaitAnswer (λ w n. only (leads WaitAnswer) (eqb w 5) _ _ (neither (leads WaitAnswer) (eqb w 4) _ _ refl refl)) e h l
+  by-answer Destination Active e h l = h
+  by-answer Destination WaitSetupConf e h l =
+      by-word 1 WaitSetupConf
+      (λ w n. only (leads WaitSetupConf) (eqb w 1) _ _
+      (neither (leads WaitSetupConf) (eqb w 2) _ _ (refused (t .correct) (t .error) (t .cause))
+      (neither (leads WaitSetupConf) (eqb w 3) _ _ refl
+      (neither (leads WaitSetupConf) (eqb w 4) _ _ refl (neither (leads WaitSetupConf) (eqb w 5) _ _ refl refl)))))
+      e h l
+  by-answer Destination WaitActiveConf e h l = h
+  by-answer Destination WaitCalled e h l = h
+
+in-setup : (p : Phase) → isSetup p ≡ true → p ≡ Setup
+in-setup Unopened h = cc
+in-setup Null h = cc
+in-setup Setup h = refl
+in-setup Answered h = cc
+in-setup Cleared h = cc
+
+-- what leads a call to ANSWERED
+pub record Answering (c : Call) (e : Event) (o : Outcome) : Type 0 where
+  -- the step was accepted
+  pub number : o .number ≡ 0
+  -- the call was in SETUP
+  pub phase : c .stand .phase ≡ Setup
+  -- and the event was the one that answers it there
+  pub event : answersAt (c .side .role) (c .stand .rev) e ≡ true
+
+-- A step that leads to ANSWERED from another phase is an accepted answer to a call in SETUP.
+pub answered-entered : (c : Call) (e : Event) → isAnswered (c .stand .phase) ≡ false → isAnswered (stepOf c e .call .stand .phase) ≡ true →
+    Answering c e (stepOf c e)
+answered-entered c e h =
+    stepped (λ (o : Outcome). isAnswered (o .call .stand .phase) ≡ true → Answering c e o) c e
+    (λ v l. differ (sym h ∙ l)) (λ n v p q l. differ (sym h ∙ l))
+    (λ n d l.
+    let k = so _ _ (so _ _ (so _ _ (holds entering (λ e t a b. refl) c e) (d .row)) (ap not h)) l in
+    let p = in-setup (c .stand .phase) (left (isSetup (c .stand .phase)) _ k) in
+    record {
+      number = refl;
+      phase = p;
+      event =
+          by-answer (termsOf (c .side .flags) (c .stand) (readOf e)) (c .stand .agreed) (c .stand .rest) (c .side .role) (c .stand .rev) e
+          (right (isSetup (c .stand .phase)) _ k)
+          (subst
+          (λ (x : Phase). isAnswered (after (record { phase = x; rev = c .stand .rev; agreed = c .stand .agreed; rest = c .stand .rest })
+          (planOf (rowForOf (c .side .role) x (c .stand .rev) (cueOf (readOf e))) (termsOf (c .side .flags) (c .stand) (readOf e)))) ≡ true)
+          p l);
+    })

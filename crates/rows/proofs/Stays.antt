@@ -1,0 +1,456 @@
+-- A CALL STAYS A CALL: what step gives back is a call that step takes, so no history from the opening meets number 9.
+-- Of the meters it uses what their crate promises, Rattle.meters.proofs.Laws.
+-- Assumes nothing.
+use mathlib.Core.Path.{_≡_, refl, sym, _∙_, ap, subst}
+use mathlib.Core.Bool.{Bool, true, false, _&&_, _||_, not}
+use mathlib.Core.List.{List, [], _∷_}
+use Prim.Native.Nat.{ℕ}
+use native.Mathlib.Omega.{arith}
+use lib.Dec.{eqb, leb}
+use borrow.Author.Tests.{eqb-true, le-leb}
+use Rattle.meters.proofs.Laws
+use Rattle.meters.proofs.Laws.{Gave, gave, moved}
+use Rattle.meters.specs.Meters.{limit, withinOf, paidByOf, giveOf, entireOf, receivedOf, changeOf}
+use Rattle.meters.specs.declared.Change.{Change}
+use Rattle.meters.specs.declared.Change.the-variants.{Keep, CallerPays, CalledPays, FarPays, NobodyPays, EntireToCalled, EntireToFar}
+use Rattle.meters.specs.declared.Change.the-variants.{TimePasses, DurationReceived}
+use Rattle.meters.specs.declared.Metered.the-variants.{Done}
+use Rattle.meters.specs.declared.Meters.{Meters}
+use Rattle.meters.specs.declared.Payer.{Payer}
+use Rattle.meters.specs.declared.Payer.the-variants.{Nobody, Caller, Called, Far}
+use Rattle.rows.specs.History.{run, history}
+use Rattle.rows.specs.Perform.{standOf, orHeld, roleBy, sideOf}
+use Rattle.rows.specs.Promises.{noneIs}
+use Rattle.rows.specs.Read.{bit, readOf}
+use Rattle.rows.specs.Step.{unopenedCall, stepOf}
+use Rattle.rows.specs.Valid.{placedOf, inRange, unmetered, payerNobody, payerThere, noCaller, meteredOf, payingThere, payingOf}
+use Rattle.rows.specs.Valid.{numbersHeld, validOf, numberIf, componentOk, partsOk, eventOk}
+use Rattle.rows.specs.declared.Call.{Call}
+use Rattle.rows.specs.declared.Event.{Event}
+use Rattle.rows.specs.declared.Event.the-variants.{Opening, Ask, Received, FromAccess, Expiry, Time}
+use Rattle.rows.specs.declared.Number.{Number}
+use Rattle.rows.specs.declared.Outcome.{Outcome}
+use Rattle.rows.specs.declared.Phase.{Phase}
+use Rattle.rows.specs.declared.Phase.the-variants.{Unopened, Null, Setup, Answered, Cleared}
+use Rattle.rows.specs.declared.Reading.{Reading}
+use Rattle.rows.specs.declared.Register.{Register}
+use Rattle.rows.specs.declared.Register.the-variants.{AsHeld, FromOpening, CalledNumber, CallingNumber}
+use Rattle.rows.specs.declared.RevState.{RevState}
+use Rattle.rows.specs.declared.Role.{Role}
+use Rattle.rows.specs.declared.Role.the-variants.{Originating, Destination}
+use Rattle.rows.specs.declared.Side.{Side}
+use Rattle.rows.specs.declared.Stand.{Stand}
+use Rattle.rows.proofs.Found.{implies, so, Test, holds, stepped}
+use Rattle.rows.proofs.Answers.{planFor}
+use Rattle.rows.proofs.Truth.{differ, left, right}
+
+both : {a b : Bool} → a ≡ true → b ≡ true → (a && b) ≡ true
+both {a} {b} p q = ap (λ (x : Bool). x && b) p ∙ q
+
+-- ---- Numbers: those that an event in range carries are in range
+
+or-none : (a : Bool) → (a || false) ≡ true → a ≡ true
+or-none true h = refl
+or-none false h = h
+
+number : (b : Bool) (n : Number) → numberIf b n ≡ true → inRange n ≡ true
+number true n h = left (inRange n) _ (or-none _ h)
+number false n h =
+    let p : n .count ≡ 0 = eqb-true _ _ (left (eqb (n .count) 0) _ h) in
+    let q : n .value ≡ 0 = eqb-true _ _ (right (eqb (n .count) 0) _ h) in
+    rw (p, q)
+
+pub record Carries (r : Reading) : Type 0 where
+  pub own : inRange (r .own) ≡ true
+  pub calling : inRange (r .calling) ≡ true
+  pub called : inRange (r .called) ≡ true
+
+carries : (e : Event) → eventOk e ≡ true → Carries (readOf e)
+carries (Opening r f n) h = record { own = left (inRange n) _ (right (leb f 31) _ (right (leb r 1) _ h)); calling = refl; called = refl }
+carries (Ask q n) h = record { own = refl; calling = refl; called = number (leb q 1) n (right (leb q 3) _ h) }
+carries (Received m) h =
+    let n =
+    right (partsOk (m .parts)) _
+    (right (componentOk (m .component)) _ (right (leb (m .cause) 127) _ (right (leb 1 (m .kind) && leb (m .kind) 5) _ h))) in
+    record {
+      own = refl;
+      calling = number (bit 16 (m .parts)) (m .calling) (left (numberIf (bit 16 (m .parts)) (m .calling)) _ n);
+      called =
+          number (bit 32 (m .parts)) (m .called)
+          (left (numberIf (bit 32 (m .parts)) (m .called)) _ (right (numberIf (bit 16 (m .parts)) (m .calling)) _ n));
+    }
+carries (FromAccess a n) h = record { own = refl; calling = refl; called = refl }
+carries Expiry h = record { own = refl; calling = refl; called = refl }
+carries (Time s) h = record { own = refl; calling = refl; called = refl }
+
+either : (b : Bool) (n held : Number) → inRange n ≡ true → inRange held ≡ true → inRange (orHeld b n held) ≡ true
+either true n held p q = p
+either false n held p q = q
+
+-- so those that a call holds stay in range
+registers : (x : Register) (s : Side) {r : Reading} → Carries r → numbersHeld s ≡ true → numbersHeld (sideOf x s r) ≡ true
+registers AsHeld s c h = h
+registers FromOpening s c h = both (c .own) refl
+registers CalledNumber s {r} c h =
+    let n = right (inRange (s .own)) _ h in
+    both (left (inRange (s .own)) _ h)
+    (both (left (inRange (s .calling)) _ n)
+    (either (leb 1 (r .called .count)) (r .called) (s .called) (c .called) (right (inRange (s .calling)) _ n)))
+registers CallingNumber s {r} c h =
+    let n = right (inRange (s .own)) _ h in
+    both (left (inRange (s .own)) _ h)
+    (both (either (leb 1 (r .calling .count)) (r .calling) (s .calling) (c .calling) (left (inRange (s .calling)) _ n))
+    (right (inRange (s .calling)) _ n))
+
+-- ---- Meters: what 9 asks of them, before the answer, while they talk and after
+
+pub data Age : Type 0 where
+  before : Age
+  talking : Age
+  over : Age
+
+abbrev ageOf : Phase → Age
+ageOf Unopened = before
+ageOf Null = before
+ageOf Setup = before
+ageOf Answered = talking
+ageOf Cleared = over
+
+abbrev meteredIn : Role → Age → Meters → Bool
+meteredIn r before m = unmetered m
+meteredIn r talking m = noCaller r m
+meteredIn r over m = noCaller r m
+
+abbrev payingIn : Role → Age → Payer → Bool
+payingIn r before p = payerNobody p
+payingIn r talking p = payingThere r p
+payingIn r over p = payerNobody p
+
+metered : (r : Role) (p : Phase) (m : Meters) → meteredOf r p m ≡ meteredIn r (ageOf p) m
+metered r Unopened m = refl
+metered r Null m = refl
+metered r Setup m = refl
+metered r Answered m = refl
+metered r Cleared m = refl
+
+paying : (r : Role) (p : Phase) (x : Payer) → payingOf r p x ≡ payingIn r (ageOf p) x
+paying r Unopened x = refl
+paying r Null x = refl
+paying r Setup x = refl
+paying r Answered x = refl
+paying r Cleared x = refl
+
+pub record Sound (r : Role) (t : Age) (m : Meters) : Type 0 where
+  pub metered : meteredIn r t m ≡ true
+  pub within : withinOf m ≡ true
+  pub paying : payingIn r t (m .payer) ≡ true
+
+-- the caller's meter of a destination stays 0
+no-caller : (r : Role) (t : Age) (m : Meters) → meteredIn r t m ≡ true → noCaller r m ≡ true
+no-caller Originating t m h = refl
+no-caller Destination before m h = left (eqb (m .caller) 0) _ (left (eqb (m .caller) 0 && eqb (m .called) 0) _ h)
+no-caller Destination talking m h = h
+no-caller Destination over m h = h
+
+same-caller : (r : Role) (m n : Meters) → n .caller ≡ m .caller → noCaller r m ≡ true → noCaller r n ≡ true
+same-caller Originating m n e h = refl
+same-caller Destination m n e h = ap (λ (x : ℕ). eqb x 0) e ∙ h
+
+emptied : (r : Role) (n : Meters) → n .caller ≡ 0 → noCaller r n ≡ true
+emptied Originating n e = refl
+emptied Destination n e = ap (λ (x : ℕ). eqb x 0) e
+
+-- which changes of the meters keep that
+abbrev isBefore : Age → Bool
+isBefore before = true
+isBefore talking = false
+isBefore over = false
+
+abbrev isTalking : Age → Bool
+isTalking before = false
+isTalking talking = true
+isTalking over = false
+
+abbrev isOver : Age → Bool
+isOver before = false
+isOver talking = false
+isOver over = true
+
+abbrev sameAge : Age → Age → Bool
+sameAge before t = isBefore t
+sameAge talking t = isTalking t
+sameAge over t = isOver t
+
+abbrev isOriginating : Role → Bool
+isOriginating Originating = true
+isOriginating Destination = false
+
+abbrev turns : Role → Age → Age → Change → Bool
+turns r t u Keep = sameAge t u
+turns r t u CallerPays = isOriginating r && isTalking u
+turns r t u CalledPays = isTalking u
+turns r t u FarPays = isTalking u
+turns r t u NobodyPays = isOver u
+turns r t u EntireToCalled = isTalking u
+turns r t u EntireToFar = isTalking u
+turns r t u TimePasses = isTalking t && isTalking u
+turns r t u DurationReceived = isTalking u
+
+is-before : (t : Age) → isBefore t ≡ true → t ≡ before
+is-before before h = refl
+is-before talking h = cc
+is-before over h = cc
+
+is-talking : (t : Age) → isTalking t ≡ true → t ≡ talking
+is-talking before h = cc
+is-talking talking h = refl
+is-talking over h = cc
+
+is-over : (t : Age) → isOver t ≡ true → t ≡ over
+is-over before h = cc
+is-over talking h = cc
+is-over over h = refl
+
+same-age : (t u : Age) → sameAge t u ≡ true → u ≡ t
+same-age before u h = is-before u h
+same-age talking u h = is-talking u h
+same-age over u h = is-over u h
+
+-- a tick at a destination is not the caller's
+pub not-callers : (p : Payer) (s : ℕ) → payerThere p ≡ true → Laws.share Caller p s ≡ 0
+not-callers Nobody s h = refl
+not-callers Caller s h = cc
+not-callers Called s h = refl
+not-callers Far s h = refl
+
+ticked : (r : Role) {m n : Meters} {s : ℕ} → Sound r talking m → Gave m n (m .payer) s → noCaller r n ≡ true
+ticked Originating z g = refl
+ticked Destination {m} {n} {s} z g =
+    let p = not-callers (m .payer) s (z .paying) in
+    let q : m .caller ≡ 0 = eqb-true _ _ (z .metered) in
+    emptied Destination n (omega arith)
+
+-- what a change leaves: a payer, no caller's second at a destination, a sum within the limit
+record Left (r : Role) (p : Payer) (n : Meters) : Type 0 where
+  caller : noCaller r n ≡ true
+  within : withinOf n ≡ true
+  payer : n .payer ≡ p
+
+pays : (r : Role) (t : Age) (p : Payer) (m n : Meters) → Sound r t m → Done (paidByOf m p) ≡ Done n → Left r p n
+pays r t p m n z h =
+    let e : paidByOf m p ≡ n = cc in
+    subst (λ (k : Meters). Left r p k) e
+    (record { caller = same-caller r m _ refl (no-caller r t m (z .metered)); within = z .within; payer = refl })
+
+moves : (r : Role) (t : Age) (p : Payer) (m n : Meters) → payerThere p ≡ true → Sound r t m → entireOf m p ≡ Done n → Left r p n
+moves r t p m n i z h =
+    let g = moved m n p h in
+    record {
+      caller = emptied r n (g .caller ∙ not-callers p (m .caller) i);
+      within = ap (λ (x : ℕ). leb x limit) (g .sum) ∙ z .within;
+      payer = g .payer;
+    }
+
+ticks : (r : Role) (m n : Meters) (s : ℕ) → Sound r talking m → giveOf m s ≡ Done n → Left r (m .payer) n
+ticks r m n s z h =
+    let g = gave m n s h in
+    record { caller = ticked r z g; within = le-leb _ _ (g .bound); payer = g .payer }
+
+receives : (r : Role) (t : Age) (m n : Meters) (s : ℕ) → Sound r t m → receivedOf m s ≡ Done n → Left r Called n
+receives r t m n s z h =
+    let g : Gave _ n Called s = gave _ n s h in
+    record {
+      caller = same-caller r m n (omega (arith, g .caller)) (no-caller r t m (z .metered));
+      within = le-leb _ _ (g .bound);
+      payer = g .payer;
+    }
+
+there : (r : Role) (p : Payer) → payerThere p ≡ true → payingThere r p ≡ true
+there Originating p h = refl
+there Destination p h = h
+
+caller-there : (r : Role) → isOriginating r ≡ true → payingThere r Caller ≡ true
+caller-there Originating h = refl
+caller-there Destination h = h
+
+talks : (r : Role) (p : Payer) (n : Meters) (u : Age) → isTalking u ≡ true → payingThere r p ≡ true → Left r p n → Sound r u n
+talks r p n before i h l = differ i
+talks r p n talking i h l = record { metered = l .caller; within = l .within; paying = ap (payingThere r) (l .payer) ∙ h }
+talks r p n over i h l = differ i
+
+ends : (r : Role) (n : Meters) (u : Age) → isOver u ≡ true → Left r Nobody n → Sound r u n
+ends r n before i l = differ i
+ends r n talking i l = differ i
+ends r n over i l = record { metered = l .caller; within = l .within; paying = ap payerNobody (l .payer) }
+
+keeps : (r : Role) (t u : Age) {m : Meters} → sameAge t u ≡ true → Sound r t m → Sound r u m
+keeps r t u {m} i z = subst (λ (v : Age). Sound r v m) (sym (same-age t u i)) z
+
+changes : (r : Role) (t u : Age) (x : Change) (m n : Meters) (s : ℕ) → turns r t u x ≡ true → Sound r t m → changeOf x m s ≡ Done n →
+    Sound r u n
+changes r t u Keep m n s i z h = let e : m ≡ n = cc in subst (λ (k : Meters). Sound r u k) e (keeps r t u i z)
+changes r t u CallerPays m n s i z h =
+    talks r Caller n u (right (isOriginating r) _ i) (caller-there r (left (isOriginating r) _ i)) (pays r t Caller m n z h)
+changes r t u CalledPays m n s i z h = talks r Called n u i (there r Called refl) (pays r t Called m n z h)
+changes r t u FarPays m n s i z h = talks r Far n u i (there r Far refl) (pays r t Far m n z h)
+changes r t u NobodyPays m n s i z h = ends r n u i (pays r t Nobody m n z h)
+changes r t u EntireToCalled m n s i z h = talks r Called n u i (there r Called refl) (moves r t Called m n refl z h)
+changes r t u EntireToFar m n s i z h = talks r Far n u i (there r Far refl) (moves r t Far m n refl z h)
+changes r t u TimePasses m n s i z h =
+    let z′ = subst (λ (v : Age). Sound r v m) (is-talking t (left (isTalking t) _ i)) z in
+    talks r (m .payer) n u (right (isTalking t) _ i) (z′ .paying) (ticks r m n s z′ h)
+changes r t u DurationReceived m n s i z h = talks r Called n u i (there r Called refl) (receives r t m n s z h)
+
+-- ---- Every row keeps a call a call
+
+abbrev isKeep : Change → Bool
+isKeep Keep = true
+isKeep CallerPays = false
+isKeep CalledPays = false
+isKeep FarPays = false
+isKeep NobodyPays = false
+isKeep EntireToCalled = false
+isKeep EntireToFar = false
+isKeep TimePasses = false
+isKeep DurationReceived = false
+
+-- an opening may change the role, so what follows has to be a call in either
+abbrev fits : Role → Stand → Stand → Change → Register → Bool
+fits r now to x AsHeld = placedOf r (to .phase) (to .rev) && turns r (ageOf (now .phase)) (ageOf (to .phase)) x
+fits r now to x FromOpening =
+    (placedOf Originating (to .phase) (to .rev) && placedOf Destination (to .phase) (to .rev))
+    && (isBefore (ageOf (now .phase)) && (isBefore (ageOf (to .phase)) && isKeep x))
+fits r now to x CalledNumber = placedOf r (to .phase) (to .rev) && turns r (ageOf (now .phase)) (ageOf (to .phase)) x
+fits r now to x CallingNumber = placedOf r (to .phase) (to .rev) && turns r (ageOf (now .phase)) (ageOf (to .phase)) x
+
+abbrev fitting : Test
+fitting r now k p = implies (eqb (p .number) 0) (fits r now (standOf (p .next) now) (p .change) (p .register))
+
+-- before the answer the meters say nothing of the role
+any-role : (r q : Role) (u : Age) {n : Meters} → isBefore u ≡ true → Sound r u n → Sound q u n
+any-role r q before i z = record { metered = z .metered; within = z .within; paying = z .paying }
+any-role r q talking i z = differ i
+any-role r q over i z = differ i
+
+kept-before : (r : Role) (t u : Age) (x : Change) → isBefore t ≡ true → isBefore u ≡ true → isKeep x ≡ true → turns r t u x ≡ true
+kept-before r before u Keep i j k = j
+kept-before r talking u Keep i j k = differ i
+kept-before r over u Keep i j k = differ i
+kept-before r t u CallerPays i j k = differ k
+kept-before r t u CalledPays i j k = differ k
+kept-before r t u FarPays i j k = differ k
+kept-before r t u NobodyPays i j k = differ k
+kept-before r t u EntireToCalled i j k = differ k
+kept-before r t u EntireToFar i j k = differ k
+kept-before r t u TimePasses i j k = differ k
+kept-before r t u DurationReceived i j k = differ k
+
+in-either : (p : Phase) (s : RevState) (b : Bool) → (placedOf Originating p s && placedOf Destination p s) ≡ true →
+    placedOf (roleBy b) p s ≡ true
+in-either p s true h = right (placedOf Originating p s) _ h
+in-either p s false h = left (placedOf Originating p s) _ h
+
+-- validOf, taken apart and put together
+pub record Good (s : Side) (at : Stand) (m : Meters) : Type 0 where
+  pub placed : placedOf (s .role) (at .phase) (at .rev) ≡ true
+  pub sound : Sound (s .role) (ageOf (at .phase)) m
+  pub held : numbersHeld s ≡ true
+
+pub good : (c : Call) → validOf c ≡ true → Good (c .side) (c .stand) (c .meters)
+good c h =
+    let k = right (placedOf (c .side .role) (c .stand .phase) (c .stand .rev)) _ h in
+    let l = right (meteredOf (c .side .role) (c .stand .phase) (c .meters)) _ k in
+    let n = right (withinOf (c .meters)) _ l in
+    record {
+      placed = left (placedOf (c .side .role) (c .stand .phase) (c .stand .rev)) _ h;
+      sound =
+          record {
+            metered =
+                sym (metered (c .side .role) (c .stand .phase) (c .meters))
+                ∙ left (meteredOf (c .side .role) (c .stand .phase) (c .meters)) _ k;
+            within = left (withinOf (c .meters)) _ l;
+            paying =
+                sym (paying (c .side .role) (c .stand .phase) (c .meters .payer))
+                ∙ left (payingOf (c .side .role) (c .stand .phase) (c .meters .payer)) _ n;
+          };
+      held = right (payingOf (c .side .role) (c .stand .phase) (c .meters .payer)) _ n;
+    }
+
+made : (s : Side) (at : Stand) (m : Meters) → Good s at m → validOf (record { side = s; stand = at; meters = m }) ≡ true
+made s at m g =
+    both (g .placed)
+    (both (metered (s .role) (at .phase) m ∙ g .sound .metered)
+    (both (g .sound .within) (both (paying (s .role) (at .phase) (m .payer) ∙ g .sound .paying) (g .held))))
+
+module _ (s : Side) (now to : Stand) (m n : Meters) (x : Change) (e : Event) (ok : eventOk e ≡ true) (g : Good s now m)
+    (h : changeOf x m (readOf e .seconds) ≡ Done n) where
+  -- the role stays
+  stays : (y : Register) → sideOf y s (readOf e) .role ≡ s .role →
+      (placedOf (s .role) (to .phase) (to .rev) && turns (s .role) (ageOf (now .phase)) (ageOf (to .phase)) x) ≡ true →
+      Good (sideOf y s (readOf e)) to n
+  stays y q f =
+      record {
+        placed =
+            subst (λ (r : Role). placedOf r (to .phase) (to .rev) ≡ true) (sym q) (left (placedOf (s .role) (to .phase) (to .rev)) _ f);
+        sound =
+            subst (λ (r : Role). Sound r (ageOf (to .phase)) n) (sym q)
+            (changes (s .role) (ageOf (now .phase)) (ageOf (to .phase)) x m n (readOf e .seconds)
+            (right (placedOf (s .role) (to .phase) (to .rev)) _ f) (g .sound) h);
+        held = registers y s (carries e ok) (g .held);
+      }
+
+  follows : (y : Register) → fits (s .role) now to x y ≡ true → Good (sideOf y s (readOf e)) to n
+  follows AsHeld f = stays AsHeld refl f
+  follows FromOpening f =
+      let k = right (placedOf Originating (to .phase) (to .rev) && placedOf Destination (to .phase) (to .rev)) _ f in
+      let l = right (isBefore (ageOf (now .phase))) _ k in
+      record {
+        placed =
+            in-either (to .phase) (to .rev) (eqb (readOf e .item) 1)
+            (left (placedOf Originating (to .phase) (to .rev) && placedOf Destination (to .phase) (to .rev)) _ f);
+        sound =
+            any-role (s .role) (roleBy (eqb (readOf e .item) 1)) (ageOf (to .phase)) (left (isBefore (ageOf (to .phase))) _ l)
+            (changes (s .role) (ageOf (now .phase)) (ageOf (to .phase)) x m n (readOf e .seconds)
+            (kept-before (s .role) (ageOf (now .phase)) (ageOf (to .phase)) x (left (isBefore (ageOf (now .phase))) _ k)
+            (left (isBefore (ageOf (to .phase))) _ l) (right (isBefore (ageOf (to .phase))) _ l))
+            (g .sound) h);
+        held = registers FromOpening s (carries e ok) (g .held);
+      }
+  follows CalledNumber f = stays CalledNumber refl f
+  follows CallingNumber f = stays CallingNumber refl f
+
+-- ---- THE THEOREMS
+
+-- A call that step takes is followed by one that step takes, whatever the event.
+pub call-stays : (c : Call) (e : Event) → validOf c ≡ true → validOf (stepOf c e .call) ≡ true
+call-stays c e v =
+    stepped (λ (o : Outcome). validOf (o .call) ≡ true) c e (λ w. v) (λ n w p q. v)
+    (λ n d.
+    made _ _ n
+    (follows (c .side) (c .stand) (standOf (planFor c e .next) (c .stand)) (c .meters) n (planFor c e .change) e (d .ranged) (good c v)
+    (d .meters)
+    (planFor c e .register) (so _ _ (holds fitting (λ e′ t a b. refl) c e) (d .row))))
+
+-- So is every call that a list of events leads to.
+pub calls-stay : (c : Call) (es : List Event) → validOf c ≡ true → validOf (run c es) ≡ true
+calls-stay c [] v = v
+calls-stay c (e ∷ es) v = calls-stay (stepOf c e .call) es (call-stays c e v)
+
+-- The call before its opening is one that step takes.
+pub unopened-valid : validOf unopenedCall ≡ true
+unopened-valid = refl
+
+-- The number 9 is given exactly where the call is not one that step takes.
+pub nine-exactly : (c : Call) (e : Event) → eqb (stepOf c e .number) 9 ≡ not (validOf c)
+nine-exactly c e =
+    stepped (λ (o : Outcome). eqb (o .number) 9 ≡ not (validOf c)) c e
+    (λ v. sym (ap not v)) (λ n v p q. q ∙ sym (ap not v)) (λ n d. sym (ap not (d .valid)))
+
+-- No step of any history from a call that step takes has the number 9.
+pub never-nine : (c : Call) (es : List Event) → validOf c ≡ true → noneIs 9 (history c es) ≡ true
+never-nine c [] v = refl
+never-nine c (e ∷ es) v = both (ap not (nine-exactly c e ∙ ap not v)) (never-nine (stepOf c e .call) es (call-stays c e v))
+
+-- So no step of any history from before the opening has it.
+pub never-nine-from-unopened : (es : List Event) → noneIs 9 (history unopenedCall es) ≡ true
+never-nine-from-unopened es = never-nine unopenedCall es unopened-valid
