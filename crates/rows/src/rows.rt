@@ -795,7 +795,7 @@ fn called_accepted(accepted: bool, calling: bool, rest: bool, duration: bool) ->
 }
 
 // What a row does.
-pub fn plan_of(row: Row, t: Terms) -> Plan
+pub(crate) fn plan_of(row: Row, t: Terms) -> Plan
     ensures { λ out. ⌜ out ≡ planOf row t ⌝ }
 {
     match row {
