@@ -1,7 +1,7 @@
 #!/bin/sh
 # random.sh [--count N] [--seed S]: generated event files (10,000 of seed 1 where it is not said), damaged ones among them, listed by the
-# proved library and by the independent model in host/reference, and compared byte for byte; before that the model's own tests. On a
-# terminal a line tells how far it is. Needs a C compiler and cargo.
+# proved library, by the bench's plain C and by the independent model in host/reference, and compared byte for byte; before that the
+# model's own tests. On a terminal a line tells how far it is. Needs a C compiler and cargo.
 set -eu
 cd "$(dirname "$0")/.."
 count=10000 seed=1
@@ -35,8 +35,22 @@ cat >target/host/serve <<'SERVE'
 . host/kit.sh
 run_x86_64 target/host/batch
 SERVE
-status=0
-target/reference/release/reference differential --count "$count" --seed "$seed" --keep target/host/difference.rev -- \
-    sh target/host/serve >target/host/random.log || status=$?
-if [ $status -eq 0 ]; then tail -n 1 target/host/random.log | sed 's/^/random: /'; else cat target/host/random.log; fi
-exit $status
+# plain C needs no archive of the kit: it is built for this machine
+cc -std=c11 -O2 -Wall -Wextra -DLISTING=plain_listing -o target/host/plain host/c/batch.c bench/plain.c
+
+# compare NAME COMMAND..: the listings of COMMAND with the model's
+compare() {
+    name=$1
+    shift
+    status=0
+    target/reference/release/reference differential --count "$count" --seed "$seed" --keep target/host/difference.rev -- \
+        "$@" >target/host/random.log || status=$?
+    if [ $status -ne 0 ]; then
+        cat target/host/random.log
+        echo "random: $name and the model differ, or $name does not answer" >&2
+        exit $status
+    fi
+    tail -n 1 target/host/random.log | sed "s/^/random: $name: /"
+}
+compare "the proved listing" sh target/host/serve
+compare "the plain listing" target/host/plain

@@ -1,40 +1,285 @@
 #!/bin/sh
-# Every row has its name in docs/ROWS.md, beside the line of specs/Find.antt that finds it and beside the line of specs/Rows.antt
-# that says what it does; every such line has the name of a row; and no other name stands there.
+# The papers' rows, line by line: each row of docs/ROWS.md (its place, its event, the table that finds it, its `Row`, its definition, the
+# clauses of its sentence) against the line of specs/Find.antt that finds it, the lines of specs/Rows.antt that say what it does, and the
+# comments of the enum `Row` in src/lib.rt; and each label on these lines against docs/ROWS.md. A label on another line, another
+# word, a row that lacks or stands twice: each is told, and fails. Needs awk.
 set -eu
 cd "$(dirname "$0")/.."
-names() { # the rows that a text names, one a line; "O6 to O8" is three
-    awk '{
-        gsub(/[,;:|]/, " ")
-        n = split($0, w, /[ \t]+/)
-        for (i = 1; i <= n; i++) if (w[i] ~ /^[GOD][0-9]+$/) {
-            k = substr(w[i], 1, 1); a = substr(w[i], 2) + 0; b = a
-            if (i + 2 <= n && w[i + 1] == "to" && w[i + 2] ~ /^[GOD][0-9]+$/) b = substr(w[i + 2], 2) + 0
-            for (j = a; j <= b; j++) print k j
+crate=crates/rows
+awk '
+function wrong(text) { print "rows: " text; faults++ }
+
+# The labels that a text names go to found[1..]; "O6 to O8" is three of them.
+function labels(text,   n, i, word, letter, last) {
+    gsub(/[,;:|()]/, " ", text)
+    n = split(text, word, /[ \t]+/)
+    count = 0
+    for (i = 1; i <= n; i++) {
+        if (word[i] !~ /^[GOD][0-9]+$/) continue
+        letter = substr(word[i], 1, 1)
+        last = substr(word[i], 2) + 0
+        if (i + 2 <= n && word[i + 1] == "to" && word[i + 2] ~ /^[GOD][0-9]+$/) last = substr(word[i + 2], 2) + 0
+        for (number = substr(word[i], 2) + 0; number <= last; number++) found[++count] = letter number
+        if (last != substr(word[i], 2) + 0) i += 2
+    }
+    return count
+}
+
+# Whether each clause that the row of a label has in docs/ROWS.md stands in a comment. n in a clause is each of 1 to 5.
+function clauses(label, comment, where,   n, i, word) {
+    n = split(sentence[label], word, /[^0-9.n]+/)
+    for (i = 1; i <= n; i++)
+        if (word[i] ~ /^3\.5\.2\.[0-9n]\.[0-9]\.[0-9]$/ && index(comment, word[i]) == 0)
+            wrong(where " has " label " without its clause " word[i])
+}
+
+function comment_of(line) { return line ~ /--/ ? substr(line, index(line, "--") + 2) : "" }
+function code_of(line) { sub(/ *--.*/, "", line); return line }
+
+FNR == 1 { file++ }
+
+# docs/ROWS.md: | Row | Event and conditions | Sentence | Found by | `Row` | Definition |
+file == 1 && /^\| [GOD][0-9]+ \|/ {
+    split($0, column, / *\| */)
+    label = column[2]
+    if (label in sentence) wrong("docs/ROWS.md has " label " twice")
+    order[++rows] = label
+    event[label] = column[3]
+    sentence[label] = column[4]
+    table[label] = column[5]
+    n = split(column[6], word, /, */)
+    for (i = 1; i <= n; i++) {
+        has_word[label, word[i]] = 1
+        page_words[++pages] = label SUBSEP word[i]
+    }
+    gsub(/`/, "", table[label])
+    gsub(/`/, "", column[7])
+    definition[label] = column[7]
+    next
+}
+
+# docs/ROWS.md, where each sentence went: clause: labels
+file == 1 && /^- 3\.5\.2\./ {
+    text = $0
+    gsub(/[,;]/, " ", text)
+    n = split(text, word, /[ .]*( |$)/)
+    for (i = 1; i <= n; i++) {
+        if (word[i] ~ /^3\.5\.2\.[1-5]\.[15]\.[12]:$/) clause = substr(word[i], 1, length(word[i]) - 1)
+        if (word[i] ~ /^[GOD][0-9]+$/) went[word[i], clause] = 1
+    }
+    next
+}
+
+# specs/Find.antt: the place of a table, then its lines
+file == 2 && /^-- (originating|destination|both roles|before)/ { place = substr($0, 4); next }
+file == 2 && /^abbrev pub .* : Kind / { place_of[$3] = place; next }
+file == 2 && /^[a-zA-Z]+Of (Opens|Asks|Iam|Answer|Rel|Fac|Tells|Expires|Passes) e = / {
+    line = $1 " " $2
+    n = split(code_of($0), part, /[ ()]+/)
+    words = 0
+    for (i = 5; i <= n; i++) # the tests begin with a dot or are e
+        if (part[i] ~ /^[A-Z]/ && part[i] != "NoRow" && !(words && word[words] == part[i])) word[++words] = part[i]
+    groups = split(comment_of($0), group, /;/)
+    if (groups != words) wrong("specs/Find.antt, " line ": " words " rows and " groups " comments")
+    for (g = 1; g <= groups && g <= words; g++) {
+        n = labels(group[g])
+        if (n == 0) wrong("specs/Find.antt, " line ": no label for " word[g])
+        for (i = 1; i <= n; i++) {
+            key = found[i] SUBSEP word[g]
+            if ((key SUBSEP $1) in finds) wrong("specs/Find.antt has " found[i] " twice in " $1)
+            finds[key, $1] = 1
+            found_at[found[i]] = found_at[found[i]] " " $1
+            if (!(key in has_word)) wrong("specs/Find.antt, " line ": " found[i] " is " word[g] ", not so in docs/ROWS.md")
+            if (table[found[i]] ~ /Of$/ && table[found[i]] != $1)
+                wrong("specs/Find.antt has " found[i] " in " $1 ", docs/ROWS.md in " table[found[i]])
+            if (kind_of(event[found[i]]) != $2) wrong("specs/Find.antt, " line ": " found[i] " is another event in docs/ROWS.md")
+            if (!stands(found[i], place_of[$1])) wrong("specs/Find.antt, " line ": " found[i] " stands elsewhere in docs/ROWS.md")
+            clauses(found[i], comment_of($0), "specs/Find.antt, " line)
+            in_find[key] = 1
         }
-    }' | sort -u
+    }
+    next
 }
-all() {
-    awk 'BEGIN { for (i = 1; i <= 5; i++) print "G" i; for (i = 1; i <= 40; i++) print "O" i; for (i = 1; i <= 56; i++) print "D" i }' | sort -u
+
+# The kind of event that a row of docs/ROWS.md names after its place.
+function kind_of(text) {
+    gsub(/\([^)]*\)/, "", text)
+    sub(/^[^:]*: /, "", text)
+    if (text ~ /^opening/) return "Opens"
+    if (text ~ /^own request/) return "Asks"
+    if (text ~ /^IAM/) return "Iam"
+    if (text ~ /^ANM or CON/) return "Answer"
+    if (text ~ /^REL/) return "Rel"
+    if (text ~ /^FAC/) return "Fac"
+    if (text ~ /^(own )?access/) return "Tells"
+    if (text ~ /^expiry/) return "Expires"
+    if (text ~ /^time/) return "Passes"
+    return "none"
 }
-fail=0
-compare() { # WHAT, names on standard input
-    got=$(cat)
-    if [ "$got" != "$(all)" ]; then
-        echo "rows: $1 does not name each of the 101 rows, and no other:" >&2
-        echo "$got" | tr '\n' ' ' >&2
-        echo >&2
-        fail=1
-    fi
+
+# Whether a table for this place ("originating, SETUP, IDLE") is one for the row of this label.
+function stands(label, place,   at, part, n, role, phase, rev, list) {
+    n = split(place, part, /, /)
+    role = part[1]; phase = part[2]; rev = n > 2 ? part[3] : "IDLE"
+    at = event[label]
+    if (label == "G1") return place == "before the opening"
+    if (label == "G2") return phase == "SETUP"
+    if (label == "G3") return phase == "ANSWERED"
+    if (label ~ /^G/) { # orig: STATES; dest: STATES
+        if (phase != "SETUP" && phase != "ANSWERED") return 0
+        list = at
+        sub(role == "originating" ? ".*orig: " : ".*dest: ", "", list)
+        sub(/(dest: |\)).*/, "", list)
+        n = split(list, part, /[,;] */)
+        for (at = 1; at <= n; at++)
+            if (part[at] == rev || part[at] == rev " in " phase || part[at] ~ "^" rev " with ") return 1
+        return 0
+    }
+    if (role != "both roles" && role != (label ~ /^O/ ? "originating" : "destination")) return 0
+    sub(/:.*/, "", at)
+    sub(/ \(.*/, "", at)
+    return at == phase ", " rev
 }
-specs=crates/rows/specs
-sed -n 's/.*-- //p' $specs/Find.antt | names | compare $specs/Find.antt
-sed -n 's/.*-- //p' $specs/Rows.antt | names | compare $specs/Rows.antt
-sed -n 's/^| \([GOD][0-9]*\) |.*/\1/p' docs/ROWS.md | names | compare docs/ROWS.md
-sed -n 's/^ *\/\/ //p' crates/rows/src/lib.rt | names | compare crates/rows/src/lib.rt
-if grep -E 'Of (Opens|Asks|Iam|Answer|Rel|Fac|Tells|Expires|Passes) e = ' $specs/Find.antt | grep -v '= NoRow$' | grep -v -e '--'; then
-    echo "rows: these lines of $specs/Find.antt name no row" >&2
-    fail=1
-fi
-[ $fail -eq 0 ] && echo "rows: 101 rows, each named in the tables, the plans, the code and docs/ROWS.md"
-exit $fail
+
+# specs/Rows.antt: labels before a definition are those of its first line
+file == 3 && /^--/ { n = labels($0); for (i = 1; i <= n; i++) above = above " " found[i]; text_above = text_above $0; next }
+file == 3 && /^$/ { above = text_above = ""; next }
+file == 3 && /^[a-z][a-zA-Z]* .*= / && !/^row / {
+    left = code_of($0); sub(/ = .*/, "", left)
+    right = code_of($0); sub(/^[^=]*= /, "", right)
+    lines++
+    left_of[lines] = left " "
+    right_of[lines] = right
+    text_of[lines] = text_above comment_of($0)
+    if ($1 == "planOf") plan[$2] = right
+    n = labels(above " " comment_of($0))
+    named[lines] = " "
+    for (i = 1; i <= n; i++) named[lines] = named[lines] found[i] " "
+    above = text_above = ""
+    next
+}
+
+# src/lib.rt: labels before a variant of the enum Row
+file == 4 && /^pub enum Row / { inside = 1; next }
+file == 4 && /^}/ { inside = 0 }
+file == 4 && inside && /^ *\/\// { above = above " " $0; next }
+file == 4 && inside {
+    word[1] = $1; sub(/,/, "", word[1])
+    variant[word[1]] = 1
+    n = labels(above)
+    for (i = 1; i <= n; i++) {
+        if ((found[i] SUBSEP word[1]) in in_code) wrong("src/lib.rt has " found[i] " twice at " word[1])
+        in_code[found[i], word[1]] = 1
+        if (!((found[i] SUBSEP word[1]) in has_word)) wrong("src/lib.rt has " found[i] " at " word[1] ", docs/ROWS.md not")
+    }
+    above = ""
+}
+
+# Whether a definition of docs/ROWS.md is that of a line: the same function and arguments, as far as the page has them.
+function is_at(text, line) { return index(left_of[line], text " ") == 1 }
+
+function check_plan(label,   n, i, j, defs, part, words, hits, at, key, first) {
+    n = split(definition[label], defs, / *[,()] */)
+    for (i = 1; i <= n; i++) {
+        if (defs[i] == "") continue
+        if (defs[i] ~ /^termsOf /) { # the terms that its plan passes on
+            words = split(defs[i], part, / /)
+            split(definition[label], first, /[ ,]+/)
+            for (j = 2; j <= words; j++)
+                if (index(plan[first[2]], "(t " part[j] ")") == 0)
+                    wrong("specs/Rows.antt: planOf " first[2] " does not pass on " part[j] ", as " label " has it")
+            continue
+        }
+        hits = 0
+        for (at = 1; at <= lines; at++) {
+            if (!is_at(defs[i], at)) continue
+            hits++
+            of_page[label, at] = 1
+            if (index(named[at], " " label " ") == 0) wrong("specs/Rows.antt, " left_of[at] "does not name " label)
+        }
+        if (hits == 0) wrong("specs/Rows.antt has no line " defs[i] " for " label)
+        if (i > 1) continue
+        split(defs[i], part, / /)
+        for (key in has_word) { # its `Row` is planned by that function, with those arguments
+            split(key, first, SUBSEP)
+            if (first[1] != label) continue
+            if (part[1] == "planOf") {
+                if (part[2] != first[2]) wrong("docs/ROWS.md: " label " is " first[2] " and " defs[i])
+            } else {
+                split(plan[first[2]], words_of_plan, / /)
+                if (words_of_plan[1] != part[1]) wrong("specs/Rows.antt: planOf " first[2] " is not " part[1] ", as " label " has it")
+                if (words_of_plan[2] ~ /^(true|false)$/ && part[2] ~ /^(true|false)$/ && words_of_plan[2] != part[2])
+                    wrong("specs/Rows.antt: planOf " first[2] " is not " defs[i] ", as " label " has it")
+            }
+        }
+    }
+}
+
+END {
+    for (i = 1; i <= 5; i++) wanted["G" i] = 1
+    for (i = 1; i <= 40; i++) wanted["O" i] = 1
+    for (i = 1; i <= 56; i++) wanted["D" i] = 1
+    for (label in wanted) if (!(label in sentence)) wrong("docs/ROWS.md has no row " label)
+    for (label in sentence) if (!(label in wanted)) wrong("docs/ROWS.md has a row " label ", which is none of the 101")
+
+    # each row of the page is found, and where it says
+    for (i = 1; i <= pages; i++) {
+        split(page_words[i], part, SUBSEP)
+        if (!(page_words[i] in in_find)) wrong("specs/Find.antt finds no " part[2] " for " part[1])
+        if (!(page_words[i] in in_code)) wrong("src/lib.rt does not name " part[1] " at " part[2])
+        if (!(part[2] in plan)) wrong("specs/Rows.antt has no planOf " part[2])
+        if (table[part[1]] ~ /Of$/ && !((page_words[i] SUBSEP table[part[1]]) in finds))
+            wrong("specs/Find.antt does not find " part[1] " in " table[part[1]])
+    }
+    # the rows of both roles: in each table where they may stand
+    for (name in place_of)
+        for (i = 2; i <= 5; i++)
+            if (stands("G" i, place_of[name]) && index(found_at["G" i] " ", " " name " ") == 0)
+                wrong("specs/Find.antt: " name " does not find G" i)
+    for (name in variant) if (name != "NoRow" && !(name in plan)) wrong("specs/Rows.antt has no planOf " name)
+
+    # what each row does
+    for (i = 1; i <= rows; i++) check_plan(order[i])
+    for (at = 1; at <= lines; at++) {
+        n = split(named[at], part, / /)
+        split(left_of[at], first, / /)
+        for (i = 1; i <= n; i++) {
+            label = part[i]
+            if (label == "") continue
+            if (!(label in sentence)) { wrong("specs/Rows.antt, " left_of[at] "names " label ", which docs/ROWS.md has not"); continue }
+            if (index(substr(named[at], index(named[at], " " label " ") + 1), " " label " ") > 0)
+                wrong("specs/Rows.antt, " left_of[at] "names " label " twice")
+            if (right_of[at] !~ /^refuses/) clauses(label, text_of[at], "specs/Rows.antt, " left_of[at] "line")
+            if ((label SUBSEP at) in of_page) continue
+            if (first[1] == "planOf" && ((label SUBSEP first[2]) in has_word)) continue
+            # a needed part that is absent: of the same function, and the page says what it needs
+            if (right_of[at] ~ /^refuses partAbsent/ && index(definition[label] " ", first[1] " ") == 1 && event[label] ~ /Needs/) continue
+            wrong("specs/Rows.antt, " left_of[at] "names " label ", docs/ROWS.md not")
+        }
+        if (right_of[at] ~ /^refuses partAbsent/) for (i = 1; i <= n; i++) if (part[i] != "") needs[part[i]] = 1
+    }
+    for (i = 1; i <= rows; i++) {
+        label = order[i]
+        if ((event[label] ~ /Needs/) != (label in needs)) wrong("specs/Rows.antt and docs/ROWS.md differ on what " label " needs")
+    }
+
+    # where each sentence went
+    for (i = 1; i <= rows; i++) {
+        n = split(sentence[order[i]], part, /[^0-9.n]+/)
+        for (j = 1; j <= n; j++) {
+            if (part[j] !~ /^3\.5\.2\.[0-9n]\.[0-9]\.[0-9]$/) continue
+            for (k = 1; k <= (part[j] ~ /n/ ? 5 : 1); k++) {
+                clause = part[j]
+                sub(/n/, k, clause)
+                said[order[i], clause] = 1
+                if (!((order[i] SUBSEP clause) in went)) wrong("docs/ROWS.md: " clause " went not to " order[i] ", whose row names it")
+            }
+        }
+    }
+    for (key in went) {
+        split(key, part, SUBSEP)
+        if (!(key in said)) wrong("docs/ROWS.md: " part[2] " went to " part[1] ", whose row does not name it")
+    }
+    if (faults) exit 1
+    print "rows: " rows " rows, each the same in docs/ROWS.md, the tables, the plans and the code"
+}' docs/ROWS.md $crate/specs/Find.antt $crate/specs/Rows.antt $crate/src/lib.rt

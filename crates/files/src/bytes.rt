@@ -5,7 +5,7 @@ ghost use lib.ListN.{length};
 ghost use Rattle.files.specs.Bytes.{byteAt, le2At, le4At, le8At, numberAt};
 use rows::Number;
 
-pub fn byte(s: &[u8], i: usize) -> u8
+pub(crate) fn byte(s: &[u8], i: usize) -> u8
     ensures { λ r. ⌜ r ≡ byteAt (now (s .entry)) i ⌝ }
 {
     if i < s.len() {
@@ -14,7 +14,7 @@ pub fn byte(s: &[u8], i: usize) -> u8
     0
 }
 
-pub fn wide(x: u8) -> u32
+pub(crate) fn wide(x: u8) -> u32
     ensures { λ r. ⌜ (r ≡ x) × (r < 256) ⌝ }
 {
     x as u32
@@ -48,7 +48,7 @@ fn eight(s: &[u8], i: usize) -> u64
     wider(four(s, i)) + 4294967296 * wider(four(s, i + 4))
 }
 
-pub fn le2(s: &[u8], i: usize) -> u32
+pub(crate) fn le2(s: &[u8], i: usize) -> u32
     requires { ⌜ i + 1 < 2 ^ 64 ⌝ }
     ensures { λ r. ⌜ (r ≡ le2At (now (s .entry)) i) × (r < 65536) ⌝ }
 {
@@ -58,7 +58,7 @@ pub fn le2(s: &[u8], i: usize) -> u32
     wide(byte(s, i)) + 256 * wide(byte(s, i + 1))
 }
 
-pub fn le4(s: &[u8], i: usize) -> u32
+pub(crate) fn le4(s: &[u8], i: usize) -> u32
     requires { ⌜ i + 3 < 2 ^ 64 ⌝ }
     ensures { λ r. ⌜ r ≡ le4At (now (s .entry)) i ⌝ }
 {
@@ -79,7 +79,7 @@ fn le8(s: &[u8], i: usize) -> u64
 }
 
 // A number: the count of its digits, and 8 bytes of value.
-pub fn number_at(s: &[u8], i: usize) -> Number
+pub(crate) fn number_at(s: &[u8], i: usize) -> Number
     requires { ⌜ i + 8 < 2 ^ 64 ⌝ }
     ensures { λ r. ⌜ r ≡ numberAt (now (s .entry)) i ⌝ }
 {

@@ -66,7 +66,7 @@ fn frame_of(n: usize, at: usize, len: u32, kind: u32, want: u32) -> Frame
     Frame::Stop(BAD_LENGTH)
 }
 
-pub fn frame(s: &[u8], at: usize) -> Frame
+pub(crate) fn frame(s: &[u8], at: usize) -> Frame
     requires { ⌜ at < 2 ^ 63 ⌝ }
     ensures { λ r. ⌜ r ≡ frameAt (now (s .entry)) at ⌝ }
 {

@@ -13,7 +13,7 @@ use crate::bodies::read_at;
 use crate::places::place_after;
 
 // The work: what stands at a place of a slice, and the place where that leaves a reader.
-pub fn take_at(s: &[u8], at: usize) -> Taken
+pub(crate) fn take_at(s: &[u8], at: usize) -> Taken
     ensures { λ r. ⌜ r ≡ takenAt (now (s .entry)) at ⌝ }
 {
     let found = read_at(s, at);
@@ -22,7 +22,7 @@ pub fn take_at(s: &[u8], at: usize) -> Taken
 }
 
 // How many bytes a slice has from a place on.
-pub fn left_at(s: &[u8], at: usize) -> usize
+pub(crate) fn left_at(s: &[u8], at: usize) -> usize
     ensures { λ r. ⌜ r ≡ length (now (s .entry)) - at ⌝ }
 {
     if s.len() <= at {

@@ -83,7 +83,7 @@ fn put_line(out: &mut [u8], at: usize, ordinal: u32, number: u8, call: Call) -> 
 }
 
 // A word, a number, and the end of the line.
-pub fn put_numbered_line(out: &mut [u8], at: usize, word: &[u8], n: u32) -> usize
+pub(crate) fn put_numbered_line(out: &mut [u8], at: usize, word: &[u8], n: u32) -> usize
     requires { ⌜ at + length (now word) < 2 ^ 61 ⌝ }
     ensures { λ r. ⌜ Put (now (out .entry)) at (numberedLine (now (word .entry)) n) (now (out .exit)) r ⌝ }
     ensures { λ r. ⌜ r ≤ at + length (now (word .entry)) + 11 ⌝ }
@@ -132,7 +132,7 @@ fn put_actions(out: &mut [u8], at: usize, o: Outcome) -> usize
 }
 
 // A record's line and, where a row was applied, its actions.
-pub fn put_record(out: &mut [u8], at: usize, ordinal: u32, o: Outcome) -> usize
+pub(crate) fn put_record(out: &mut [u8], at: usize, ordinal: u32, o: Outcome) -> usize
     requires { ⌜ at < 2 ^ 56 ⌝ }
     ensures { λ r. ⌜ Put (now (out .entry)) at (recordText ordinal o) (now (out .exit)) r ⌝ }
     ensures { λ r. ⌜ r ≤ at + longestRecord ⌝ }

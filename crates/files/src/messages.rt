@@ -132,7 +132,7 @@ fn put_carried(out: &mut [u8], at: usize, m: Note) -> usize
     text::put(out, to, b'\n')
 }
 
-pub fn put_sent(out: &mut [u8], at: usize, name: &[u8], m: Note) -> usize
+pub(crate) fn put_sent(out: &mut [u8], at: usize, name: &[u8], m: Note) -> usize
     requires { ⌜ at + length (now name) < 2 ^ 59 ⌝ }
     ensures { λ r. ⌜ Put (now (out .entry)) at (sentText (now (name .entry)) m) (now (out .exit)) r ⌝ }
     ensures { λ r. ⌜ r ≤ at + length (now (name .entry)) + 603 ⌝ }
@@ -142,7 +142,7 @@ pub fn put_sent(out: &mut [u8], at: usize, name: &[u8], m: Note) -> usize
 }
 
 // REL alone says its cause.
-pub fn put_released(out: &mut [u8], at: usize, m: Note) -> usize
+pub(crate) fn put_released(out: &mut [u8], at: usize, m: Note) -> usize
     requires { ⌜ at < 2 ^ 58 ⌝ }
     ensures { λ r. ⌜ Put (now (out .entry)) at (releasedText m) (now (out .exit)) r ⌝ }
     ensures { λ r. ⌜ r ≤ at + 619 ⌝ }

@@ -6,7 +6,7 @@ use crate::Read;
 use crate::lent::found_at;
 
 // The place after what was found; where there is no record, or none that can be read, `stay`.
-pub fn place_after(found: Read, stay: usize) -> usize
+pub(crate) fn place_after(found: Read, stay: usize) -> usize
     ensures { λ r. ⌜ r ≡ placeAfter found stay ⌝ }
 {
     match found {

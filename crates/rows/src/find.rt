@@ -14,7 +14,7 @@ use crate::Role;
 use crate::Row;
 
 // before the opening.
-pub fn unopened(e: Cue) -> Row
+pub(crate) fn unopened(e: Cue) -> Row
     ensures { λ out. ⌜ out ≡ unopenedOf (e .kind) e ⌝ }
 {
     let k = e.kind;
@@ -32,7 +32,7 @@ pub fn unopened(e: Cue) -> Row
 }
 
 // originating, NULL.
-pub fn originating_null(e: Cue) -> Row
+pub(crate) fn originating_null(e: Cue) -> Row
     ensures { λ out. ⌜ out ≡ originatingNullOf (e .kind) e ⌝ }
 {
     let k = e.kind;
@@ -55,7 +55,7 @@ pub fn originating_null(e: Cue) -> Row
 }
 
 // originating, SETUP, IDLE.
-pub fn originating_setup_idle(e: Cue) -> Row
+pub(crate) fn originating_setup_idle(e: Cue) -> Row
     ensures { λ out. ⌜ out ≡ originatingSetupIdleOf (e .kind) e ⌝ }
 {
     let k = e.kind;
@@ -87,7 +87,7 @@ pub fn originating_setup_idle(e: Cue) -> Row
 }
 
 // originating, SETUP, WAIT-SETUP.
-pub fn wait_setup(e: Cue) -> Row
+pub(crate) fn wait_setup(e: Cue) -> Row
     ensures { λ out. ⌜ out ≡ waitSetupOf (e .kind) e ⌝ }
 {
     let k = e.kind;
@@ -131,7 +131,7 @@ pub fn wait_setup(e: Cue) -> Row
 }
 
 // originating, SETUP, WAIT-ANSWER.
-pub fn originating_wait_answer(e: Cue) -> Row
+pub(crate) fn originating_wait_answer(e: Cue) -> Row
     ensures { λ out. ⌜ out ≡ originatingWaitAnswerOf (e .kind) e ⌝ }
 {
     let k = e.kind;
@@ -159,7 +159,7 @@ pub fn originating_wait_answer(e: Cue) -> Row
 }
 
 // originating, ANSWERED, IDLE.
-pub fn originating_answered_idle(e: Cue) -> Row
+pub(crate) fn originating_answered_idle(e: Cue) -> Row
     ensures { λ out. ⌜ out ≡ originatingAnsweredIdleOf (e .kind) e ⌝ }
 {
     let k = e.kind;
@@ -188,7 +188,7 @@ pub fn originating_answered_idle(e: Cue) -> Row
 }
 
 // originating, ANSWERED, WAIT-ACTIVE.
-pub fn wait_active(e: Cue) -> Row
+pub(crate) fn wait_active(e: Cue) -> Row
     ensures { λ out. ⌜ out ≡ waitActiveOf (e .kind) e ⌝ }
 {
     let k = e.kind;
@@ -233,7 +233,7 @@ pub fn wait_active(e: Cue) -> Row
 }
 
 // both roles, ANSWERED, ACTIVE.
-pub fn active(e: Cue) -> Row
+pub(crate) fn active(e: Cue) -> Row
     ensures { λ out. ⌜ out ≡ activeOf (e .kind) e ⌝ }
 {
     let k = e.kind;
@@ -266,7 +266,7 @@ pub fn active(e: Cue) -> Row
 }
 
 // destination, NULL.
-pub fn destination_null(e: Cue) -> Row
+pub(crate) fn destination_null(e: Cue) -> Row
     ensures { λ out. ⌜ out ≡ destinationNullOf (e .kind) e ⌝ }
 {
     let k = e.kind;
@@ -293,7 +293,7 @@ pub fn destination_null(e: Cue) -> Row
 }
 
 // destination, SETUP, IDLE.
-pub fn destination_setup_idle(e: Cue) -> Row
+pub(crate) fn destination_setup_idle(e: Cue) -> Row
     ensures { λ out. ⌜ out ≡ destinationSetupIdleOf (e .kind) e ⌝ }
 {
     let k = e.kind;
@@ -320,7 +320,7 @@ pub fn destination_setup_idle(e: Cue) -> Row
 }
 
 // destination, SETUP, WAIT-SETUP-CONF.
-pub fn wait_setup_conf(e: Cue) -> Row
+pub(crate) fn wait_setup_conf(e: Cue) -> Row
     ensures { λ out. ⌜ out ≡ waitSetupConfOf (e .kind) e ⌝ }
 {
     let k = e.kind;
@@ -359,7 +359,7 @@ pub fn wait_setup_conf(e: Cue) -> Row
 }
 
 // destination, SETUP, WAIT-CALLED.
-pub fn setup_wait_called(e: Cue) -> Row
+pub(crate) fn setup_wait_called(e: Cue) -> Row
     ensures { λ out. ⌜ out ≡ setupWaitCalledOf (e .kind) e ⌝ }
 {
     let k = e.kind;
@@ -395,7 +395,7 @@ pub fn setup_wait_called(e: Cue) -> Row
 }
 
 // destination, SETUP, WAIT-ANSWER.
-pub fn destination_wait_answer(e: Cue) -> Row
+pub(crate) fn destination_wait_answer(e: Cue) -> Row
     ensures { λ out. ⌜ out ≡ destinationWaitAnswerOf (e .kind) e ⌝ }
 {
     let k = e.kind;
@@ -422,7 +422,7 @@ pub fn destination_wait_answer(e: Cue) -> Row
 }
 
 // destination, ANSWERED, IDLE.
-pub fn destination_answered_idle(e: Cue) -> Row
+pub(crate) fn destination_answered_idle(e: Cue) -> Row
     ensures { λ out. ⌜ out ≡ destinationAnsweredIdleOf (e .kind) e ⌝ }
 {
     let k = e.kind;
@@ -455,7 +455,7 @@ pub fn destination_answered_idle(e: Cue) -> Row
 }
 
 // destination, ANSWERED, WAIT-ACTIVE-CONF.
-pub fn wait_active_conf(e: Cue) -> Row
+pub(crate) fn wait_active_conf(e: Cue) -> Row
     ensures { λ out. ⌜ out ≡ waitActiveConfOf (e .kind) e ⌝ }
 {
     let k = e.kind;
@@ -500,7 +500,7 @@ pub fn wait_active_conf(e: Cue) -> Row
 }
 
 // destination, ANSWERED, WAIT-CALLED.
-pub fn answered_wait_called(e: Cue) -> Row
+pub(crate) fn answered_wait_called(e: Cue) -> Row
     ensures { λ out. ⌜ out ≡ answeredWaitCalledOf (e .kind) e ⌝ }
 {
     let k = e.kind;
@@ -536,7 +536,7 @@ pub fn answered_wait_called(e: Cue) -> Row
 }
 
 // originating, SETUP.
-pub fn originating_setup(s: RevState, e: Cue) -> Row
+pub(crate) fn originating_setup(s: RevState, e: Cue) -> Row
     ensures { λ out. ⌜ out ≡ originatingSetupOf s e ⌝ }
 {
     match s {
@@ -552,7 +552,7 @@ pub fn originating_setup(s: RevState, e: Cue) -> Row
 }
 
 // originating, ANSWERED.
-pub fn originating_answered(s: RevState, e: Cue) -> Row
+pub(crate) fn originating_answered(s: RevState, e: Cue) -> Row
     ensures { λ out. ⌜ out ≡ originatingAnsweredOf s e ⌝ }
 {
     match s {
@@ -568,7 +568,7 @@ pub fn originating_answered(s: RevState, e: Cue) -> Row
 }
 
 // originating.
-pub fn originating(p: Phase, s: RevState, e: Cue) -> Row
+pub(crate) fn originating(p: Phase, s: RevState, e: Cue) -> Row
     ensures { λ out. ⌜ out ≡ originatingOf p s e ⌝ }
 {
     match p {
@@ -581,7 +581,7 @@ pub fn originating(p: Phase, s: RevState, e: Cue) -> Row
 }
 
 // destination, SETUP.
-pub fn destination_setup(s: RevState, e: Cue) -> Row
+pub(crate) fn destination_setup(s: RevState, e: Cue) -> Row
     ensures { λ out. ⌜ out ≡ destinationSetupOf s e ⌝ }
 {
     match s {
@@ -597,7 +597,7 @@ pub fn destination_setup(s: RevState, e: Cue) -> Row
 }
 
 // destination, ANSWERED.
-pub fn destination_answered(s: RevState, e: Cue) -> Row
+pub(crate) fn destination_answered(s: RevState, e: Cue) -> Row
     ensures { λ out. ⌜ out ≡ destinationAnsweredOf s e ⌝ }
 {
     match s {
@@ -613,7 +613,7 @@ pub fn destination_answered(s: RevState, e: Cue) -> Row
 }
 
 // destination.
-pub fn destination(p: Phase, s: RevState, e: Cue) -> Row
+pub(crate) fn destination(p: Phase, s: RevState, e: Cue) -> Row
     ensures { λ out. ⌜ out ≡ destinationOf p s e ⌝ }
 {
     match p {
@@ -626,7 +626,7 @@ pub fn destination(p: Phase, s: RevState, e: Cue) -> Row
 }
 
 // the row that a role has for an event in a phase and REV state.
-pub fn row_for(r: Role, p: Phase, s: RevState, e: Cue) -> Row
+pub(crate) fn row_for(r: Role, p: Phase, s: RevState, e: Cue) -> Row
     ensures { λ out. ⌜ out ≡ rowForOf r p s e ⌝ }
 {
     match r {

@@ -34,7 +34,7 @@ use crate::numbers::REL;
 use crate::numbers::REV_ERRORS;
 
 // 01, kind 1: 1 transfer, 2 subscription option, 4 subscribed, 8 interaction allowed, 16 case D.
-pub fn flags_of(n: u8) -> Flags
+pub(crate) fn flags_of(n: u8) -> Flags
     ensures { λ out. ⌜ out ≡ flagsOf n ⌝ }
 {
     Flags {
@@ -46,7 +46,7 @@ pub fn flags_of(n: u8) -> Flags
     }
 }
 
-pub fn asked_of(n: u8) -> Asked
+pub(crate) fn asked_of(n: u8) -> Asked
     ensures { λ out. ⌜ out ≡ askedOf n ⌝ }
 {
     Asked {
@@ -58,7 +58,7 @@ pub fn asked_of(n: u8) -> Asked
     }
 }
 
-pub fn told_of(n: u8) -> Told
+pub(crate) fn told_of(n: u8) -> Told
     ensures { λ out. ⌜ out ≡ toldOf n ⌝ }
 {
     Told {
@@ -87,7 +87,7 @@ fn heard_by(alone: bool, invoke: bool, result: bool, failure: bool, rejection: b
     }
 }
 
-pub fn heard_of(component: Component) -> Heard
+pub(crate) fn heard_of(component: Component) -> Heard
     ensures { λ out. ⌜ out ≡ heardOf component ⌝ }
 {
     match component {
@@ -115,13 +115,13 @@ fn kind_by(iam: bool, answer: bool, rel: bool) -> Kind
 }
 
 // A message, by its number; a message that is none of 1 to 5 gets 3 before any row is looked for.
-pub fn kind_of(n: u8) -> Kind
+pub(crate) fn kind_of(n: u8) -> Kind
     ensures { λ out. ⌜ out ≡ kindOf n ⌝ }
 {
     kind_by(n == IAM, (n == ANM) | (n == CON), n == REL)
 }
 
-pub fn error_of(component: Component) -> u8
+pub(crate) fn error_of(component: Component) -> u8
     ensures { λ out. ⌜ out ≡ errorOf component ⌝ }
 {
     match component {
@@ -152,7 +152,7 @@ fn plain(kind: Kind, item: u8, error: u8, cause: u8, seconds: u32) -> Reading
     }
 }
 
-pub fn read(e: Event) -> Reading
+pub(crate) fn read(e: Event) -> Reading
     ensures { λ out. ⌜ out ≡ readOf e ⌝ }
 {
     match e {
@@ -213,7 +213,7 @@ fn read_message(m: Message) -> Reading
     }
 }
 
-pub fn cue_of(r: Reading) -> Cue
+pub(crate) fn cue_of(r: Reading) -> Cue
     ensures { λ out. ⌜ out ≡ cueOf r ⌝ }
 {
     let kind = r.kind;
@@ -230,7 +230,7 @@ pub fn cue_of(r: Reading) -> Cue
 }
 
 // An error is REV's if the module lists it: the bit of its number.
-pub fn listed(n: u8) -> bool
+pub(crate) fn listed(n: u8) -> bool
     ensures { λ out. ⌜ out ≡ listedOf n ⌝ }
 {
     (n <= 15) & ((REV_ERRORS >> (n % 16)) % 2 == 1)
@@ -301,7 +301,7 @@ fn correct_by(listed: bool) -> Correctness
     }
 }
 
-pub fn terms_of(f: Flags, at: Stand, r: Reading) -> Terms
+pub(crate) fn terms_of(f: Flags, at: Stand, r: Reading) -> Terms
     ensures { λ out. ⌜ out ≡ termsOf f at r ⌝ }
 {
     let parts = r.parts;

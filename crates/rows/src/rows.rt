@@ -898,7 +898,7 @@ fn called_accepted(extent: Extent, mode: Mode, calling: bool, duration: bool) ->
 }
 
 // What a row does.
-pub fn plan_of(row: Row, t: Terms) -> Plan
+pub(crate) fn plan_of(row: Row, t: Terms) -> Plan
     ensures { λ out. ⌜ out ≡ planOf row t ⌝ }
 {
     let interaction = t.interaction;

@@ -139,7 +139,7 @@ fn ten_to(count: u8) -> u64
 }
 
 // A number absent (0, 0), or of 1 to 15 digits: below ten to the count either way.
-pub fn in_range(n: Number) -> bool
+pub(crate) fn in_range(n: Number) -> bool
     ensures { λ out. ⌜ out ≡ inRange n ⌝ }
 {
     let top = ten_to(n.count);
@@ -235,7 +235,7 @@ fn numbers_held(side: Side) -> bool
 }
 
 // A call that step takes.
-pub fn valid(c: Call) -> bool
+pub(crate) fn valid(c: Call) -> bool
     ensures { λ out. ⌜ out ≡ validOf c ⌝ }
 {
     let side = c.side;
@@ -331,7 +331,7 @@ fn access_ok(a: u8, n: u8) -> bool
     ((1 <= a) & (a <= 5)) & ((a == 2) | (n == 0))
 }
 
-pub fn event_ok(e: Event) -> bool
+pub(crate) fn event_ok(e: Event) -> bool
     ensures { λ out. ⌜ out ≡ eventOk e ⌝ }
 {
     match e {

@@ -209,27 +209,24 @@ mod tests {
         assert_eq!(text(&file, ROOM).as_deref(), Some(shown));
     }
 
-    /// All cases of a file: `## name`, one record a line in hex, `=`, and the listing up to an empty line. The file is
-    /// named by the variable CASES; else it is tests/cases.txt, if there.
+    /// All cases of both files: `## name`, one record a line in hex, `=`, and the listing up to an empty line.
     #[test]
     fn cases() {
-        let path = std::env::var("CASES").unwrap_or(concat!(env!("CARGO_MANIFEST_DIR"), "/tests/cases.txt").into());
-        let Ok(cases) = std::fs::read_to_string(&path) else {
-            assert!(std::env::var("CASES").is_err(), "{path} can't be read");
-            println!("skipped: no cases at {path}");
-            return;
-        };
-        let mut count = 0;
-        for case in cases.split("## ").skip(1) {
-            let (head, rest) = case.split_once("=\n").expect("a listing");
-            let (name, hex) = head.split_once('\n').expect("a name");
-            let expected = &rest[..rest.len() - 1];
-            let expected = if expected.as_bytes() == REFUSED { None } else { Some(expected) };
-            assert_eq!(text(&bytes(hex), ROOM).as_deref(), expected, "case {name}");
-            count += 1;
+        for file in ["cases.txt", "framing.txt"] {
+            let path = format!("{}/../../tests/{file}", env!("CARGO_MANIFEST_DIR"));
+            let cases = std::fs::read_to_string(&path).unwrap_or_else(|error| panic!("{path}: {error}"));
+            let mut count = 0;
+            for case in cases.split("## ").skip(1) {
+                let (head, rest) = case.split_once("=\n").expect("a listing");
+                let (name, hex) = head.split_once('\n').expect("a name");
+                let expected = rest.strip_suffix('\n').filter(|text| text.ends_with('\n')).unwrap_or(rest);
+                let expected = if expected.as_bytes() == REFUSED { None } else { Some(expected) };
+                assert_eq!(text(&bytes(hex), ROOM).as_deref(), expected, "{file}, case {name}");
+                count += 1;
+            }
+            println!("{count} cases of {file} as expected");
+            assert!(count > 0, "no cases in {path}");
         }
-        println!("{count} cases as expected");
-        assert!(count > 0, "no cases in {path}");
     }
 
     fn bytes(hex: &str) -> Vec<u8> {
