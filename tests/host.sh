@@ -38,14 +38,17 @@ check_copied() {
     rm -rf $room/copied
     mkdir $room/copied
     cp host/c/rev.h "$archive" host/c/example.c host/c/test.cpp $room/copied
-    (cd $room/copied && cc -std=c99 -pedantic -Wall -Wextra -Werror -fPIE -pie -Wl,-z,text,--fatal-warnings -o example example.c librev.a) ||
+    strict='-pedantic -Wall -Wextra -Werror'
+    # shellcheck disable=SC2086
+    (cd $room/copied && cc -std=c99 $strict -fPIE -pie -Wl,-z,text,--fatal-warnings -o example example.c librev.a) ||
         fail "the example does not build beside header and archive alone"
     $room/copied/example examples/room-pays.rev | cmp - examples/room-pays.txt || fail "the example that was copied prints another text"
     if ! command -v c++ >/dev/null; then
         echo "host: the header in C++ is skipped, there is no c++ here"
         return
     fi
-    (cd $room/copied && c++ -std=c++11 -pedantic -Wall -Wextra -Wold-style-cast -Werror -o test test.cpp librev.a) ||
+    # shellcheck disable=SC2086
+    (cd $room/copied && c++ -std=c++11 $strict -Wold-style-cast -o test test.cpp librev.a) ||
         fail "a C++ host does not build"
     $room/copied/test || fail "a C++ host gets another length"
     echo "host: a C and a C++ host build without a warning beside header and archive alone, and run"
