@@ -106,8 +106,10 @@ check_hosts() {
     prints $room/most.txt $room/most.rev
     ./dump $room/most.rev >$room/dumped
     prints $room/dumped --dump $room/most.rev
-    refuses 1 "more than 65536 bytes" $room/over.rev
-    refuses 1 "more than 65536 bytes" --dump $room/over.rev 16777216
+    for size in 0 16777216; do
+        refuses 1 "more than 65536 bytes" $room/over.rev $size
+        refuses 1 "more than 65536 bytes" --dump $room/over.rev $size
+    done
 
     prints examples/room-pays.txt examples/room-pays.rev 65536
     for size in 0 1 100; do

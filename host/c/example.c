@@ -8,7 +8,6 @@
  */
 #include "rev.h"
 
-#include <errno.h>
 #include <stdio.h>
 #include <stdlib.h>
 #include <string.h>
@@ -18,7 +17,8 @@
 
 typedef size_t view(const uint8_t *file, size_t file_len, uint8_t *out, size_t out_len);
 
-/* A size of digits alone. By itself strtoul also takes spaces and signs, and makes the largest number of -1. */
+/* A size of digits alone: strtoul by itself also takes spaces and signs, -1 as the largest number. It is that too where there are too
+ * many digits, and then more than MOST. */
 static int read_size(const char *word, size_t *size)
 {
     unsigned long value;
@@ -26,9 +26,8 @@ static int read_size(const char *word, size_t *size)
 
     if (word[0] < '0' || word[0] > '9')
         return 0;
-    errno = 0;
     value = strtoul(word, &end, 10);
-    if (errno != 0 || *end != '\0' || value > MOST)
+    if (*end != '\0' || value > MOST)
         return 0;
     *size = value;
     return 1;

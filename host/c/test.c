@@ -64,12 +64,12 @@ static int kept(const char *name, const uint8_t *file, size_t file_len)
         if (file_len <= REV_LONGEST) {
             length = views[v].text_of(file, file_len, whole, ROOM);
             most = length + PAST;
-            if (file_len == 0 ? length != views[v].shortest : length < views[v].shortest) {
-                printf("%s: a %s of %zu bytes, which is too short\n", name, views[v].name, length);
+            if (length < views[v].shortest || (file_len == 0 && length != views[v].shortest)) {
+                printf("%s: a %s of %zu bytes, where the shortest has %zu\n", name, views[v].name, length, views[v].shortest);
                 return 0;
             }
         }
-        for (size_t room = 0; room <= most; room++)
+        for (size_t room = 0; room <= ROOM; room = room == most ? ROOM : room + 1)
             if (!holds(views[v].text_of, file, file_len, length, room)) {
                 printf("%s: the %s in a buffer of %zu bytes is not as promised\n", name, views[v].name, room);
                 return 0;
