@@ -15,10 +15,10 @@
 #define FIRST_SIZE 4096u
 #define MOST 16777216u
 
-typedef size_t view(const uint8_t *file, size_t file_len, uint8_t *out, size_t out_len);
-
-/* A size of digits alone: strtoul by itself also takes spaces and signs, -1 as the largest number. It is that too where there are too
- * many digits, and then more than MOST. */
+/*
+ * Digits alone, at most MOST. By itself strtoul also takes spaces and signs, and makes the largest number of -1. Of too many digits it
+ * makes the largest number too, which is more than MOST.
+ */
 static int read_size(const char *word, size_t *size)
 {
     unsigned long value;
@@ -63,7 +63,7 @@ static int print(const uint8_t *text, size_t length)
     return 1;
 }
 
-static int show(view *text_of, const char *name, const uint8_t *file, size_t file_len, size_t size, int fixed)
+static int show(int dump, const char *name, const uint8_t *file, size_t file_len, size_t size, int fixed)
 {
     for (;; size *= 2) {
         uint8_t *out = malloc(size > 0 ? size : 1); /* at size 0 too the library wants a pointer that is not null */
@@ -74,7 +74,7 @@ static int show(view *text_of, const char *name, const uint8_t *file, size_t fil
             fprintf(stderr, "there is no memory for a buffer of %zu bytes\n", size);
             return 2;
         }
-        length = text_of(file, file_len, out, size);
+        length = dump ? rev_dump(file, file_len, out, size) : rev_listing(file, file_len, out, size);
         if (length != REV_TOO_LONG) {
             printed = print(out, length);
             free(out);
@@ -107,5 +107,5 @@ int main(int argc, char **argv)
     }
     if (!read_file(argv[0], file, sizeof file, &file_len))
         return 2;
-    return show(dump ? rev_dump : rev_listing, argv[0], file, file_len, size, fixed);
+    return show(dump, argv[0], file, file_len, size, fixed);
 }

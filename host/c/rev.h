@@ -21,6 +21,13 @@ extern "C" {
 /* Given back in the place of a length, and never a length itself: every listing has at least 12 bytes, every dump 10. */
 #define REV_TOO_LONG 8u
 
+/* With it gcc and clang warn of a null pointer that they see, and their sanitizer finds one that they do not. */
+#ifdef __GNUC__
+#define REV_NOT_NULL __attribute__((nonnull))
+#else
+#define REV_NOT_NULL
+#endif
+
 /*
  * rev_listing lists the file_len bytes at `file` into the out_len bytes at `out`; rev_dump tells the kind and place of each record.
  *
@@ -43,8 +50,8 @@ extern "C" {
  *
  * The promise is proved of crates/files/src/listing.rt and dump.rt. That these declarations fit them is tested (test.c) and not proved.
  */
-size_t rev_listing(const uint8_t *file, size_t file_len, uint8_t *out, size_t out_len);
-size_t rev_dump(const uint8_t *file, size_t file_len, uint8_t *out, size_t out_len);
+size_t rev_listing(const uint8_t *file, size_t file_len, uint8_t *out, size_t out_len) REV_NOT_NULL;
+size_t rev_dump(const uint8_t *file, size_t file_len, uint8_t *out, size_t out_len) REV_NOT_NULL;
 
 #ifdef __cplusplus
 }
