@@ -30,7 +30,9 @@ check_archive() {
     [ -z "$asked" ] || fail "the archive asks for $asked"
     exported=$(nm -g --defined-only "$archive" | awk 'NF == 3 { print $3 }' | sort -u | tr '\n' ' ')
     [ "$exported" = "rev_dump rev_listing " ] || fail "the archive exports ${exported:-nothing }and not rev_dump rev_listing alone"
-    echo "host: the archive exports rev_dump and rev_listing alone and asks for nothing"
+    kept=$(awk 'NF > 1 && $(NF - 1) ~ /^[BbCDdGgSs]$/ { print $NF }' $room/names | tr '\n' ' ')
+    [ -z "$kept" ] || fail "the archive has memory of its own, that can be written: $kept"
+    echo "host: the archive exports rev_dump and rev_listing alone, asks for nothing and keeps nothing"
 }
 
 # Another folder, with the header, the archive and a host: the strictest build links at any address and gives no warning.
