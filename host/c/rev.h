@@ -29,7 +29,7 @@ extern "C" {
 #endif
 
 /*
- * rev_listing lists the file_len bytes at `file` into the out_len bytes at `out`; rev_dump tells the kind and place of each record.
+ * rev_listing writes the listing of the file_len bytes at `file` into the out_len bytes at `out`; rev_dump writes their dump.
  *
  * They give the length of the text: that many bytes of `out` are the text (no zero byte follows), and those past it are as they were.
  * Or they give REV_TOO_LONG, and every byte of `out` is as it was. It has one of two reasons:
