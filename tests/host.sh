@@ -1,22 +1,168 @@
 #!/bin/sh
-# host.sh: the library as a C host sees it. Needs a C compiler.
+# host.sh: the library as a C host sees it. Needs a C compiler. Where it has the sanitizers, the hosts run under them too: these look at the
+# C code that people copy, and the guard bytes of test.c at what the library does.
 set -eu
 cd "$(dirname "$0")/.."
-if ! command -v cc >/dev/null; then
-    echo "host: skipped, there is no cc here"
+if [ "$(uname -m)" = x86_64 ]; then compiler=cc; else compiler=clang; fi
+if ! command -v $compiler >/dev/null; then
+    echo "host: skipped, there is no $compiler here"
     exit 0
 fi
 sh host/c/build
 . host/kit.sh
-if command -v nm >/dev/null && nm -u target/staticlib/libfiles.a | grep ' U '; then
-    echo "host: the archive asks for the symbols above"
+archive=target/staticlib/librev.a
+room=target/host
+# so that a finding is none of the example's own statuses
+export ASAN_OPTIONS=exitcode=99 UBSAN_OPTIONS=exitcode=99
+
+fail() {
+    echo "host: $1"
     exit 1
+}
+
+# What the archive has and asks for.
+check_archive() {
+    if ! nm "$archive" >$room/names 2>&1; then
+        echo "host: there is no nm here that reads the archive: its names are not looked at"
+        return
+    fi
+    asked=$(nm -u "$archive" | awk '$1 == "U" { print $2 }' | sort -u | tr '\n' ' ')
+    [ -z "$asked" ] || fail "the archive asks for $asked"
+    exported=$(nm -g --defined-only "$archive" | awk 'NF == 3 { print $3 }' | sort -u | tr '\n' ' ')
+    [ "$exported" = "rev_dump rev_listing " ] || fail "the archive exports ${exported:-nothing }and not rev_dump rev_listing alone"
+    kept=$(awk 'NF > 1 && $(NF - 1) ~ /^[BbCDdGgSs]$/ { print $NF }' $room/names | tr '\n' ' ')
+    [ -z "$kept" ] || fail "the archive has memory of its own, that can be written: $kept"
+    echo "host: the archive exports rev_dump and rev_listing alone, asks for nothing and keeps nothing"
+}
+
+# Another folder, with the header, the archive and a host: the strictest build links at any address and gives no warning.
+check_copied() {
+    rm -rf $room/copied
+    mkdir $room/copied
+    cp host/c/rev.h "$archive" host/c/example.c host/c/test.cpp $room/copied
+    strict='-pedantic -Wall -Wextra -Werror'
+    # shellcheck disable=SC2086
+    (cd $room/copied && cc -std=c99 $strict -fPIE -pie -Wl,-z,text,--fatal-warnings -o example example.c librev.a) ||
+        fail "the example does not build beside header and archive alone"
+    $room/copied/example examples/room-pays.rev | cmp - examples/room-pays.txt || fail "the example that was copied prints another text"
+    if ! command -v c++ >/dev/null; then
+        echo "host: the header in C++ is skipped, there is no c++ here"
+        return
+    fi
+    # shellcheck disable=SC2086
+    (cd $room/copied && c++ -std=c++11 $strict -Wold-style-cast -o test test.cpp librev.a) ||
+        fail "a C++ host does not build"
+    $room/copied/test || fail "a C++ host gets another length"
+    echo "host: a C and a C++ host build without a warning beside header and archive alone, and run"
+}
+
+# A file with the most records there are, the listing that it has, and a file too long by a byte.
+write_files() {
+    printf '\002\000\005\000' >$room/most.rev
+    for _ in 1 2 3 4 5 6 7 8 9 10 11 12 13 14; do
+        cat $room/most.rev $room/most.rev >$room/twice
+        mv $room/twice $room/most.rev
+    done
+    awk 'BEGIN { print "REV 1"; for (i = 1; i <= 16384; i++) print i, "1 NONE IDLE 0 0 0"; print "END 16384" }' >$room/most.txt
+    { cat $room/most.rev; printf '\002'; } >$room/over.rev
+}
+
+# prints TEXT WORDS..: the example with these words prints the text of that file.
+prints() {
+    text=$1
+    shift
+    run_x86_64 "$hosts/example" "$@" >$room/printed || fail "$hosts/example $* ended with $?"
+    cmp -s $room/printed "$text" || fail "$hosts/example $* does not print what is in $text"
+}
+
+# refuses STATUS SAYING WORDS..: it prints nothing, says one line with SAYING in it, and ends with STATUS.
+refuses() {
+    want=$1 saying=$2
+    shift 2
+    status=0
+    run_x86_64 "$hosts/example" "$@" >$room/printed 2>$room/said || status=$?
+    [ ! -s $room/printed ] || fail "$hosts/example $* prints, and should not"
+    check_said "$@"
+}
+
+check_said() {
+    if [ $status -ne "$want" ] || [ "$(wc -l <$room/said)" -ne 1 ] || ! grep -q "$saying" $room/said; then
+        fail "$hosts/example $* should say '$saying' and end with $want; it ended with $status and said: $(cat $room/said)"
+    fi
+}
+
+# check_hosts FOLDER: the programs test and example that were built there.
+check_hosts() {
+    hosts=$1
+    printf 'host: '
+    run_x86_64 "$hosts/test" examples/*.rev || fail "$hosts/test ended with $?"
+    for file in examples/*.rev; do
+        listing=${file%.rev}.txt
+        length=$(wc -c <"$listing")
+        prints "$listing" "$file"
+        prints "$listing" "$file" "$((length))"
+        refuses 1 "more than the $((length - 1)) bytes of the buffer" "$file" "$((length - 1))"
+        ./dump "$file" >$room/dumped
+        prints $room/dumped --dump "$file"
+    done
+    prints $room/most.txt $room/most.rev
+    ./dump $room/most.rev >$room/dumped
+    prints $room/dumped --dump $room/most.rev
+    for size in 0 16777216; do
+        refuses 1 "more than 65536 bytes" $room/over.rev $size
+        refuses 1 "more than 65536 bytes" --dump $room/over.rev $size
+    done
+
+    prints examples/room-pays.txt examples/room-pays.rev 65536
+    for size in 0 1 100; do
+        refuses 1 "more than the $size bytes of the buffer" examples/room-pays.rev $size
+        refuses 1 "more than the $size bytes of the buffer" --dump examples/room-takes-over.rev $size
+    done
+    for size in -1 +1 ' 1' '1 ' 12x x '' 16777217 18446744073709551615 18446744073709551617 99999999999999999999; do
+        refuses 2 "usage: example" examples/room-pays.rev "$size"
+    done
+    refuses 2 "usage: example"
+    refuses 2 "usage: example" --dump
+    refuses 2 "usage: example" examples/room-pays.rev 4096 4096
+    refuses 2 "nowhere.rev: No such file" $room/nowhere.rev
+    refuses 2 "examples: Is a directory" examples
+
+    want=2 saying='standard output: '
+    for file in examples/room-pays.rev $room/most.rev; do # less than the C library keeps back, and more
+        status=0
+        run_x86_64 "$hosts/example" "$file" >/dev/full 2>$room/said || status=$?
+        check_said "$file" ">/dev/full"
+        [ "$(uname -m)" = x86_64 ] || continue # a descriptor that is free is the emulator's to use
+        status=0
+        "$hosts/example" "$file" >&- 2>$room/said || status=$?
+        check_said "$file" ">&-"
+    done
+    echo "host: $hosts/example prints the listing and dump of each example, and says what is wrong with sizes, files and standard output"
+}
+
+# Whether cc builds programs with the sanitizers, and they run.
+sanitizers='-fsanitize=address,undefined -fno-sanitize-recover=all'
+has_sanitizers() {
+    echo 'int main(void) { return 0; }' >$room/probe.c
+    # shellcheck disable=SC2086
+    cc $sanitizers -o $room/probe $room/probe.c >$room/probe.log 2>&1 && $room/probe >>$room/probe.log 2>&1
+}
+
+check_archive
+write_files
+check_hosts $room
+if [ "$(uname -m)" != x86_64 ]; then
+    echo "host: another folder and the sanitizers are skipped: hosts are cross-built here"
+    exit 0
 fi
-printf 'host: '
-run_x86_64 target/host/test examples/*.rev
-run_x86_64 target/host/example examples/room-pays.rev 4096 | cmp - examples/room-pays.txt
-if run_x86_64 target/host/example examples/room-pays.rev 100 2>/dev/null; then
-    echo "host: a listing was printed from a buffer too small"
-    exit 1
+check_copied
+if ! has_sanitizers; then
+    echo "host: the sanitizers are skipped: cc has none that run here"
+    exit 0
 fi
-echo "host: the example lists examples/room-pays.rev, and says where a buffer is too small"
+mkdir -p $room/sanitized
+for program in example test; do
+    # shellcheck disable=SC2086
+    cc -std=c11 -g -O1 $sanitizers -Wall -Wextra -o $room/sanitized/$program host/c/$program.c $archive
+done
+check_hosts $room/sanitized

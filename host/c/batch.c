@@ -8,17 +8,17 @@
  *
  * The listing is rev_listing, unless -DLISTING=plain_listing names another of its signature.
  */
-#include <stddef.h>
-#include <stdint.h>
+#include "rev.h"
+
 #include <stdio.h>
 #include <stdlib.h>
 #include <string.h>
 
-#ifndef LISTING
+#ifdef LISTING
+size_t LISTING(const uint8_t *file, size_t file_len, uint8_t *out, size_t out_len);
+#else
 #define LISTING rev_listing
 #endif
-
-extern size_t LISTING(const uint8_t *file, size_t file_len, uint8_t *out, size_t out_len);
 
 enum { ROOM = 65536, GUARD = 4096, FILLER = 0xEE };
 
@@ -56,10 +56,10 @@ int main(void)
         if (fread(file, 1, file_len, stdin) != file_len)
             return 2;
         length = LISTING(file, file_len, out, ROOM);
-        changed = length == 8 ? 0 : length;
+        changed = length == REV_TOO_LONG ? 0 : length;
         if (changed > ROOM || memcmp(out + changed, filler, sizeof out - changed) != 0)
             return 3;
-        if (!answer(length == 8 ? 0xFFFFFFFF : (uint32_t)length, changed))
+        if (!answer(length == REV_TOO_LONG ? 0xFFFFFFFF : (uint32_t)length, changed))
             return 2;
         memset(out, FILLER, changed);
     }
