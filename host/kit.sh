@@ -1,3 +1,4 @@
+# shellcheck shell=sh
 # Building and running x86-64 programs, to be sourced. Archives of the Rattle kit are x86-64: on such a machine programs
 # are built by cc and run as they are; on Arm they are cross-built by clang with the kit's linker and C library and run
 # under the kit's emulator.
