@@ -1,0 +1,32 @@
+#!/bin/sh
+# scripts.sh: shellcheck finds nothing in the shell scripts, each that is run can be, and each that takes an argument says so without one.
+set -eu
+cd "$(dirname "$0")/.."
+scripts='listing dump bench/run host/c/build .ci/run'
+fail=0
+for script in $scripts tests/*.sh; do
+    if [ ! -x "$script" ]; then
+        echo "scripts: $script cannot be run as it stands: its mode lacks x"
+        fail=1
+    fi
+done
+for script in tests/cases.sh tests/sizes.sh; do
+    status=0
+    said=$(sh $script 2>&1) || status=$?
+    case $status$said in
+    2usage:*) ;;
+    *)
+        echo "scripts: $script without its argument ends with $status and says: $said"
+        fail=1
+        ;;
+    esac
+done
+if command -v shellcheck >/dev/null; then
+    # shellcheck disable=SC2086 # a script a word
+    shellcheck -x $scripts host/*.sh tests/*.sh || fail=1
+    checked="clean by $(shellcheck --version | sed -n 's/^version: /shellcheck /p')"
+else
+    checked="shellcheck is not here"
+fi
+[ $fail -eq 0 ] && echo "scripts: they can be run, and say what they take; $checked"
+exit $fail
