@@ -74,8 +74,8 @@ END
 }
 
 version() {
-    number=$(sed -n 's/^#define REV_VERSION[ ("]*\([0-9][0-9.]*\).*/\1/p' "$root/host/c/rev.h")
-    echo "$name of Farghozzi${number:+, version $number}"
+    form=$(sed -n 's/^#define REV_VERSION[ ]*//p' "$root/host/c/rev.h")
+    echo "$name of Farghozzi${form:+, for files and listings of the form REV $form}"
     echo "for the Rattle kit $(cat "$root/KIT")"
 }
 

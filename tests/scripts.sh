@@ -2,9 +2,9 @@
 # scripts.sh: shellcheck finds nothing in the shell scripts, each that is run can be, and each that takes an argument says so without one.
 set -eu
 cd "$(dirname "$0")/.."
-scripts='listing dump bench/run host/c/build .ci/run'
+scripts=$(grep -lrE '^#!(/bin/sh|/usr/bin/env bash)$' listing dump bench host tests .ci | sort)
 fail=0
-for script in $scripts tests/*.sh; do
+for script in $scripts; do
     if [ ! -x "$script" ]; then
         echo "scripts: $script cannot be run as it stands: its mode lacks x"
         fail=1
@@ -23,10 +23,13 @@ for script in tests/cases.sh tests/sizes.sh; do
 done
 if command -v shellcheck >/dev/null; then
     # shellcheck disable=SC2086 # a script a word
-    shellcheck -x $scripts host/*.sh tests/*.sh || fail=1
+    shellcheck -x $scripts host/*.sh || fail=1
     checked="clean by $(shellcheck --version | sed -n 's/^version: /shellcheck /p')"
 else
     checked="shellcheck is not here"
 fi
-[ $fail -eq 0 ] && echo "scripts: they can be run, and say what they take; $checked"
+# shellcheck disable=SC2086 # a script a word
+set -- $scripts
+[ $# -gt 0 ] || fail=1
+[ $fail -eq 0 ] && echo "scripts: all $# can be run, and say what they take; $checked"
 exit $fail
