@@ -16,7 +16,7 @@ longest=65536 # bytes of an event file (docs/FORMAT.md)
 run_program() {
     name=$1 what=$2
     shift 2
-    # before anything is built, since all that is printed would go nowhere; and before a file that is opened takes the closed one's place
+    # first of all, since a file that is opened would take the place of a closed one
     (true 3>&1) 2>/dev/null || stop "standard output is closed"
     closed=
     (true 3<&0) 2>/dev/null || { closed=yes && exec </dev/null; }
@@ -34,11 +34,6 @@ run_program() {
     esac
     [ $# -gt 0 ] || set -- -
     program=$root/target/bin/$name
-    [ -x "$program" ] || build
-    if [ "$(uname -m)" != x86_64 ]; then
-        command -v rt >/dev/null || stop "the program is x86-64, and the Rattle kit, whose emulator runs it here, is not on the path"
-        find_toolchain || stop "the kit has no emulator for this machine"
-    fi
     room=$(mktemp -d 2>/dev/null) || stop "there is no room for temporary files"
     trap 'rm -rf "$room"' EXIT
     trap 'exit 129' HUP
@@ -125,6 +120,12 @@ answer() {
     if ! problem=$(LC_ALL=C head -c $((longest + 1)) -- "$1" 2>&1 >"$room/file"); then
         say "$shown: cannot be read: ${problem##*: }"
         return 1
+    fi
+    # built only now, so that a file that is not there is told at once
+    [ -x "$program" ] || build
+    if [ "$(uname -m)" != x86_64 ]; then
+        command -v rt >/dev/null || stop "the program is x86-64, and the Rattle kit, whose emulator runs it here, is not on the path"
+        find_toolchain || stop "the kit has no emulator for this machine"
     fi
     # the status is that of cat, which sees whether all was written
     run_x86_64 "$program" <"$room/file" | cat >"$room/answer" || stop "temporary files cannot be written"

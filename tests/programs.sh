@@ -37,7 +37,8 @@ try() {
     : >"$room/wanted"
 }
 
-mkdir "$room/bin" "$room/a fresh copy"
+mkdir "$room/bin" "$room/tools"
+for tool in awk cat dirname grep head mkdir mktemp readlink rm sed sh uname; do ln -s "$(command -v $tool)" "$room/tools/$tool"; done
 for name in listing dump; do
     # builds it if it is missing
     "./$name" "$file" >/dev/null
@@ -121,6 +122,10 @@ END
 $name: proving meters (1 of 5), some seconds
 rt: meters proved (1 s)
 $name: proving rows (2 of 5), some minutes"
+    try "a first run without the file" 2 "$name: none: no such file" env PATH="$room/bin:$PATH" "$copy/$name" none
+    try "a first run without the kit" 2 \
+        "$name: the program is not built yet, and the Rattle kit, whose command rt builds it, is not on the path" \
+        env PATH="$room/tools" "$copy/$name" "$file"
     try "a first run that is refused" 2 "$first
 rows: error
 $name: rows is not proved, or cannot be: rt says why, above" env PATH="$room/bin:$PATH" REFUSE=rows "$copy/$name" "$file"
