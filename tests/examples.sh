@@ -1,6 +1,6 @@
 #!/bin/sh
-# examples.sh: the listing of each event file of examples/ is the one beside it; and the file that docs/FORMAT.md makes by hand, in two ways,
-# is listed as it says there.
+# examples.sh: the listing of each event file of examples/ is the one beside it; and the file that docs/FORMAT.md makes by hand, in two
+# ways, is listed as it says there.
 set -eu
 cd "$(dirname "$0")/.."
 fail=0 count=0
