@@ -81,6 +81,7 @@ $name: tests: is a folder" sh -c "./$name none '$file' tests - <'$other'"
     try "standard output full" 2 "$name: standard output cannot be written: No space left on device" sh -c "./$name '$file' >/dev/full"
     try "the help to a full standard output" 2 "$name: standard output cannot be written: No space left on device" \
         sh -c "./$name --help >/dev/full"
+    try "no folder for temporary files" 2 "$name: there is no room for temporary files" env TMPDIR="$room/none" "./$name" "$file"
     printf '%s\n' "$(answer "$file" | head -n 1)" >"$room/wanted"
     try "standard output that nobody reads to its end" 0 "" sh -c "./$name '$file' '$file' '$file' | sed -n '2{p;q;}'"
     if command -v script >/dev/null; then
