@@ -3,6 +3,7 @@
 # compared. A case is `## name`, one record a line in hex, `=`, and the listing that is expected, up to an empty line.
 # Prints each case that differs, last the count of both kinds; fails on any difference.
 set -eu
+[ $# -ge 1 ] || { echo "usage: cases.sh PROGRAM [CASES]" >&2 && exit 2; }
 program=$1
 cases=${2:-$(dirname "$0")/cases.txt}
 room=$(mktemp -d)
@@ -26,6 +27,7 @@ awk '
 right=0 wrong=0
 while read -r name from to bytes; do # -r: the escapes are for printf
     [ "$bytes" = - ] && bytes=''
+    # shellcheck disable=SC2059 # a format of escapes alone
     printf "$bytes" >"$room/file"
     sed -n "${from},${to}p" "$cases" >"$room/expected"
     "$program" <"$room/file" >"$room/got" || true

@@ -2,6 +2,7 @@
 # sizes.sh PROGRAM: a listing program at the edges of its sizes. Files of 65,535, 65,536 and 65,537 bytes whose listing fits, and
 # files whose listing has 65,535, 65,536 and 65,537 bytes.
 set -eu
+[ $# -eq 1 ] || { echo "usage: sizes.sh PROGRAM" >&2 && exit 2; }
 program=$1
 room=$(mktemp -d)
 trap 'rm -rf "$room"' EXIT
@@ -19,12 +20,13 @@ expect() { # WHAT FILE LENGTH-OF-LISTING-OR-0 LAST-LINE
 }
 repeat() { # COUNT ESCAPES: the bytes so many times
     BYTES=$2 awk -v n="$1" 'BEGIN { for (i = 0; i < n; i++) printf "%s", ENVIRON["BYTES"] }' >"$room/escapes"
+    # shellcheck disable=SC2059 # a format of escapes alone
     printf "$(cat "$room/escapes")"
 }
 # 2,114 FAC messages with both numbers and a Duration (31 bytes each) are 65,534 bytes; before the opening each gets 1
 n='\001\001\000\000\000\000\000\000\000'
 message='\035\000\003\000\005\000\000\000\160'$n$n'\001\000\000\000'
-for part in 1 2; do
+for _ in 1 2; do
     repeat 1057 "$message"
 done >"$room/most"
 { cat "$room/most"; printf '\002'; } >"$room/file"
