@@ -1,3 +1,4 @@
+pub mod Billed
 pub mod Fits
 pub mod Records
 pub mod Texts
