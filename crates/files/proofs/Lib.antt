@@ -1,4 +1,5 @@
 pub mod Billed
+pub mod Eight
 pub mod Fits
 pub mod Records
 pub mod Texts
