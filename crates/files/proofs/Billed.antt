@@ -8,8 +8,8 @@ use Prim.Native.Nat.{ℕ, zero, suc, _+_, _≤_, _<_}
 use native.Mathlib.Nat.{add-zero, zero-add}
 use native.Mathlib.Numerals.{add-one}
 use native.Mathlib.Omega.{arith}
-use lib.ListN.{length, take, getElem?, length-append}
-use lib.Seq.{append-snoc}
+use lib.ListN.{length, take, drop, getElem?, length-append}
+use lib.Seq.{append-snoc, take-append-seam, drop-append-seam}
 use Rattle.text.specs.Text.{ascii}
 use Rattle.text.proofs.Cases.{yes-lt, no-lt, yes-le, both-lt, both-le}
 use Rattle.rows.specs.Bill.{Step, line, originating}
@@ -22,6 +22,7 @@ use Rattle.rows.specs.declared.Outcome.{Outcome}
 use Rattle.rows.proofs.Opened.{Told, line-billed}
 use Rattle.rows.proofs.Whole.{Shows}
 use Rattle.files.specs.Bodies.{readBy, readAt}
+use Rattle.files.specs.Fit.{longest, answers, leaves}
 use Rattle.files.specs.Frames.{frameAt}
 use Rattle.files.specs.Lines.{numberedLine, metersText, lineText, recordText}
 use Rattle.files.specs.Listing.{answerOf, restOf, recordsOf, listingOf}
@@ -29,6 +30,7 @@ use Rattle.files.specs.Places.{placeAfter, placesFrom, placesOf}
 use Rattle.files.specs.Shown.{Ending, whole, unread, Contents, andThen, contentsFrom, contentsOf, eventsOf, Shown, shownAfter, shownOf, shownText, billText, billedText}
 use Rattle.files.specs.declared.Frame.{Frame}
 use Rattle.files.specs.declared.Read.{Read}
+use Rattle.files.proofs.Eight.{listing-length}
 
 -- ---- The listing's bytes
 
@@ -162,3 +164,36 @@ pub billed-text : (s : List ℕ) (k : ℕ) (x : Shown) → getElem? (shownOf s) 
     line (history unopenedCall (take (k + 1) (eventsOf s))) ≡ originating f h → recordText (x .ordinal) (x .answer) ≡ billedText x f h
 unfolding recordText lineText metersText billedText billText
 billed-text s k x g f h e = told-text x f h (subst (Told (x .answer .call)) e (billed-line s k x g))
+
+-- ---- What a host gets
+
+-- `rev_listing` gave n for the file s, and left the buffer `new` where `old` was
+pub record Gets (s old : List ℕ) (n : ℕ) (new : List ℕ) : Type 0 where
+  -- 8: the buffer is as it was
+  pub refused : n ≡ 8 → new ≡ old
+  -- any other n: the first n bytes are the header, the text of each record shown, and END with their count
+  pub listing : (n ≡ 8 → ⊥) → take n new ≡ ascii "REV 1\n" ++ shownText (shownOf s) ++ numberedLine (ascii "END ") (length (shownOf s))
+  -- and the bytes past them stay
+  pub beyond : (n ≡ 8 → ⊥) → drop n new ≡ drop n old
+
+-- What the contract of `rev_listing` says (its two parts, crates/files/src/listing.rt), as a host meets it.
+pub host-gets : (s old : List ℕ) (n : ℕ) (new : List ℕ) → (n ≡ answers s (listingOf s) old) × (new ≡ leaves s (listingOf s) old) → Gets s old n new
+unfolding answers leaves
+host-gets s old n new (e, f) =
+    both-lt longest (length s) (λ (_ : ℕ). Gets s old n new) 0 0
+    (λ p. not-given (e ∙ sym (yes-lt _ _ _ _ _ p refl)) (f ∙ sym (yes-lt _ _ _ _ _ p refl)))
+    λ p.
+    both-lt (length old) (length (listingOf s)) (λ (_ : ℕ). Gets s old n new) 0 0
+    (λ q. not-given (e ∙ sym (no-lt _ _ _ _ _ p (yes-lt _ _ _ _ _ q refl))) (f ∙ sym (no-lt _ _ _ _ _ p (yes-lt _ _ _ _ _ q refl))))
+    (λ q. given (e ∙ sym (no-lt _ _ _ _ _ p (no-lt _ _ _ _ _ q refl))) (f ∙ sym (no-lt _ _ _ _ _ p (no-lt _ _ _ _ _ q refl))))
+  where
+    not-given : n ≡ 8 → new ≡ old → Gets s old n new
+    not-given e f = record { refused = λ _. f; listing = λ g. absurd (g e); beyond = λ g. absurd (g e) }
+
+    given : n ≡ length (listingOf s) → new ≡ listingOf s ++ drop (length (listingOf s)) old → Gets s old n new
+    given e f =
+        record {
+          refused = λ g. absurd (omega (arith, listing-length s));
+          listing = λ _. rw (e, f) (take-append-seam (listingOf s) (drop (length (listingOf s)) old) ∙ listing-shown s);
+          beyond = λ _. rw (e, f) (drop-append-seam (listingOf s) (drop (length (listingOf s)) old));
+        }

@@ -9,13 +9,14 @@ use lib.ListN.{length, length-append}
 use Rattle.text.specs.Text.{ascii, decimal, numbered}
 use Rattle.text.proofs.Cases.{both-lt}
 use Rattle.text.proofs.Decimal.{decimal-some}
-use Rattle.files.specs.Dump.{placesText, dumpOf}
+use Rattle.rows.specs.Step.{unopenedCall}
+use Rattle.rows.specs.declared.Call.{Call}
+use Rattle.files.specs.Bodies.{readAt}
+use Rattle.files.specs.Dump.{dumpOf}
 use Rattle.files.specs.Fit.{longest, tooLong, answers}
-use Rattle.files.specs.Lines.{numberedLine}
-use Rattle.files.specs.Listing.{listingOf}
+use Rattle.files.specs.Lines.{numberedLine, recordText}
+use Rattle.files.specs.Listing.{answerOf, restOf, recordsOf, listingOf}
 use Rattle.files.specs.Places.{placesOf}
-use Rattle.files.specs.Shown.{shownOf, shownText}
-use Rattle.files.proofs.Billed.{listing-shown}
 
 -- a word, a digit at least, and the end of the line
 line-least : (word : List ℕ) (n : ℕ) → length word + 2 ≤ length (numberedLine word n)
@@ -23,19 +24,26 @@ unfolding numberedLine numbered
 line-least word n =
     omega (arith, length-append (word ++ decimal n) (ascii "\n"), length-append word (decimal n), decimal-some n)
 
+front-least : (n : ℕ) (a b : List ℕ) → n ≤ length a → n ≤ length (a ++ b)
+front-least n a b h = omega (arith, length-append a b)
+
+-- after any records END comes, with a count
+rest-least : (s : List ℕ) (n : ℕ) (c : Call) (places : List ℕ) → 6 ≤ length (restOf s n c places)
+unfolding restOf
+rest-least s n c [] = line-least (ascii "END ") n
+rest-least s n c (at ∷ places) =
+    let o = answerOf (readAt s at) c in
+    omega (arith, length-append (recordText (n + 1) o) (restOf s (n + 1) (o .call) places), rest-least s (n + 1) (o .call) places)
+
 -- Every listing has at least 12 bytes: `REV 1`, `END 0` and their ends of line.
 pub listing-length : (s : List ℕ) → 12 ≤ length (listingOf s)
-listing-length s =
-    let end = numberedLine (ascii "END ") (length (shownOf s)) in
-    omega (arith, ap length (listing-shown s), length-append (ascii "REV 1\n" ++ shownText (shownOf s)) end,
-    length-append (ascii "REV 1\n") (shownText (shownOf s)), line-least (ascii "END ") (length (shownOf s)))
+unfolding listingOf recordsOf
+listing-length s = omega (arith, rest-least s 0 unopenedCall (placesOf s))
 
 -- Every dump has at least 10 bytes: `RECORDS 0` and its end of line.
 pub dump-length : (s : List ℕ) → 10 ≤ length (dumpOf s)
 unfolding dumpOf
-dump-length s =
-    omega (arith, length-append (numberedLine (ascii "RECORDS ") (length (placesOf s))) (placesText s 0 (placesOf s)),
-    line-least (ascii "RECORDS ") (length (placesOf s)))
+dump-length s = front-least 10 (numberedLine (ascii "RECORDS ") (length (placesOf s))) _ (line-least (ascii "RECORDS ") (length (placesOf s)))
 
 -- of any text that is longer than 8 bytes
 eight-means : (s t out : List ℕ) → 8 < length t → (answers s t out ≡ tooLong) ↔ ((longest < length s) ⊎ (length out < length t))
