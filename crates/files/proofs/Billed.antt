@@ -3,13 +3,14 @@
 -- Assumes nothing.
 use mathlib.Core.Path.{_≡_, refl, sym, ap, subst, _∙_}
 use mathlib.Core.List.{List, [], _∷_, _++_, append-assoc, append-nil}
+use mathlib.Core.Logic.{_⊎_, inl, inr}
 use mathlib.Core.Option.{Option, none, some}
 use Prim.Native.Nat.{ℕ, zero, suc, _+_, _≤_, _<_}
 use native.Mathlib.Nat.{add-zero, zero-add}
 use native.Mathlib.Numerals.{add-one}
 use native.Mathlib.Omega.{arith}
 use lib.ListN.{length, take, drop, getElem?, length-append}
-use lib.Seq.{append-snoc, take-append-seam, drop-append-seam}
+use lib.Seq.{append-snoc, take-all, take-append-seam, drop-append-seam}
 use Rattle.text.specs.Text.{ascii}
 use Rattle.text.proofs.Cases.{yes-lt, no-lt, yes-le, both-lt, both-le}
 use Rattle.rows.specs.Bill.{Step, line, originating}
@@ -31,6 +32,7 @@ use Rattle.files.specs.Shown.{Ending, whole, unread, Contents, andThen, 
 use Rattle.files.specs.declared.Frame.{Frame}
 use Rattle.files.specs.declared.Read.{Read}
 use Rattle.files.proofs.Eight.{listing-length}
+use Rattle.files.proofs.Unread.{unread-number}
 
 -- ---- The listing's bytes
 
@@ -123,32 +125,70 @@ told-text : (x : Shown) (f : ℕ) (h : List Step) → Shows (x .answer .call) f 
 unfolding recordText lineText metersText billedText billText
 told-text x f h t = rw (t .caller, t .called, t .far)
 
--- what is known of it
-abbrev Kth : List Event → List Event → ℕ → Shown → Type 0
-Kth before es k x = (x .ordinal ≡ length before + k + 1) × (x .answer .call ≡ run unopenedCall (before ++ take (suc k) es))
-
-none-some : {A P : Type 0} (x : A) → none ≡ some x → P
+pub none-some : {A P : Type 0} (x : A) → none ≡ some x → P
 none-some x h = let z : _≡_ {A = ℕ} 0 1 = cc in absurd (omega arith)
 
-some-some : {A : Type 0} (P : A → Type 0) (y x : A) → some y ≡ some x → P y → P x
+pub some-some : {A : Type 0} (P : A → Type 0) (y x : A) → some y ≡ some x → P y → P x
 some-some P y x h p = let e : y ≡ x = cc in subst P e p
 
-kth : (before es : List Event) (ending : Ending) (k : ℕ) (x : Shown) → getElem? (shownAfter before es ending) k ≡ some x → Kth before es k x
+-- the answer to the k-th event, by the call that the events before it reach
+abbrev ByEvent : List Event → List Event → ℕ → Outcome → Type 0
+ByEvent before es k o = (e : Event) × (getElem? es k ≡ some e) × (o ≡ stepOf (run unopenedCall (before ++ take k es)) e)
+
+-- after all events, the refusal of a record that cannot be read
+abbrev ByEnding : List Event → List Event → Ending → ℕ → Outcome → Type 0
+ByEnding before es ending k o = (n : ℕ) × (ending ≡ unread n) × (k ≡ length es) × (o ≡ refusedOf n (run unopenedCall (before ++ es)))
+
+abbrev Kth : List Event → List Event → Ending → ℕ → Shown → Type 0
+Kth before es ending k x = (x .ordinal ≡ length before + k + 1) × (ByEvent before es k (x .answer) ⊎ ByEnding before es ending k (x .answer))
+
+after-one : (before es : List Event) (e : Event) (ending : Ending) (k : ℕ) (o : Outcome) →
+    ByEvent (before ++ (e ∷ [])) es k o ⊎ ByEnding (before ++ (e ∷ [])) es ending k o → ByEvent before (e ∷ es) (suc k) o ⊎ ByEnding before (e ∷ es) ending (suc k) o
+after-one before es e ending k o (inl (d, g, q)) = inl (d, g, q ∙ ap (λ (ds : List Event). stepOf (run unopenedCall ds) d) (append-snoc before e (take k es)))
+after-one before es e ending k o (inr (n, g, l, q)) = inr (n, g, ap suc l, q ∙ ap (λ (ds : List Event). refusedOf n (run unopenedCall ds)) (append-snoc before e es))
+
+kth : (before es : List Event) (ending : Ending) (k : ℕ) (x : Shown) → getElem? (shownAfter before es ending) k ≡ some x → Kth before es ending k x
 kth before [] whole k x h = none-some x h
-kth before [] (unread n) zero x h = some-some (Kth before [] 0) _ x h (omega arith, ap (run unopenedCall) (sym (append-nil before)))
+kth before [] (unread n) zero x h =
+    some-some (Kth before [] (unread n) 0) _ x h
+    (omega arith, inr (n, refl, refl, ap (λ (ds : List Event). refusedOf n (run unopenedCall ds)) (sym (append-nil before))))
 kth before [] (unread n) (suc k) x h = none-some x h
-kth before (e ∷ es) ending zero x h = some-some (Kth before (e ∷ es) 0) _ x h (omega arith, sym (run-on unopenedCall before e))
+kth before (e ∷ es) ending zero x h =
+    some-some (Kth before (e ∷ es) ending 0) _ x h
+    (omega arith, inl (e, refl, ap (λ (ds : List Event). stepOf (run unopenedCall ds) e) (sym (append-nil before))))
 kth before (e ∷ es) ending (suc k) x h =
     let i = kth (before ++ (e ∷ [])) es ending k x h in
-    (omega (arith, i .0, one-more before e), i .1 ∙ ap (run unopenedCall) (append-snoc before e (take (suc k) es)))
+    (omega (arith, i .0, one-more before e), after-one before es e ending k (x .answer) (i .1))
 
--- The ordinal of the k-th record shown is k + 1, and its call is the one that the events up to it reach.
+-- The answer to the k-th event, of the call that the events before it reach.
+abbrev pub Answers : List ℕ → ℕ → Outcome → Type 0
+Answers s k o = (e : Event) × (getElem? (eventsOf s) k ≡ some e) × (o ≡ stepOf (run unopenedCall (take k (eventsOf s))) e)
+
+-- The refusal, after all events, of a record that cannot be read: 5, 6 or 7, and the call as it stood.
+abbrev pub Refuses : List ℕ → ℕ → Outcome → Type 0
+Refuses s k o = (n : ℕ) × (5 ≤ n) × (n ≤ 7) × (k ≡ length (eventsOf s)) × (o ≡ refusedOf n (run unopenedCall (eventsOf s)))
+
+-- The k-th record shown has the ordinal k + 1, and answers the k-th event; or, after all events, refuses a record that cannot be read.
 pub kth-shown : (s : List ℕ) (k : ℕ) (x : Shown) → getElem? (shownOf s) k ≡ some x →
-    (x .ordinal ≡ k + 1) × (x .answer .call ≡ run unopenedCall (take (k + 1) (eventsOf s)))
+    (x .ordinal ≡ k + 1) × (Answers s k (x .answer) ⊎ Refuses s k (x .answer))
 unfolding shownOf
-kth-shown s k x h =
-    let i = kth [] (eventsOf s) (contentsOf s .ending) k x h in
-    (omega (arith, i .0), i .1 ∙ ap (λ (n : ℕ). run unopenedCall (take n (eventsOf s))) (sym (add-one k)))
+kth-shown s k x h = let i = kth [] (eventsOf s) (contentsOf s .ending) k x h in (omega (arith, i .0), told (i .1))
+  where
+    told : {o : Outcome} → ByEvent [] (eventsOf s) k o ⊎ ByEnding [] (eventsOf s) (contentsOf s .ending) k o → Answers s k o ⊎ Refuses s k o
+    told (inl i) = inl i
+    told (inr (n, g, l, q)) = inr (n, unread-number s n g .0, unread-number s n g .1, l, q)
+
+-- its call is the one that the events up to it reach
+one-taken : (c : Call) (es : List Event) (k : ℕ) (e : Event) → getElem? es k ≡ some e → stepOf (run c (take k es)) e .call ≡ run c (take (suc k) es)
+one-taken c [] k e h = none-some e h
+one-taken c (d ∷ es) zero e h = some-some (λ (x : Event). stepOf c x .call ≡ stepOf c d .call) d e h refl
+one-taken c (d ∷ es) (suc k) e h = one-taken (stepOf c d .call) es k e h
+
+kth-call : (s : List ℕ) (k : ℕ) (o : Outcome) → Answers s k o ⊎ Refuses s k o → o .call ≡ run unopenedCall (take (k + 1) (eventsOf s))
+kth-call s k o (inl (e, h, q)) =
+    ap (λ (a : Outcome). a .call) q ∙ one-taken unopenedCall (eventsOf s) k e h ∙ ap (λ (n : ℕ). run unopenedCall (take n (eventsOf s))) (sym (add-one k))
+kth-call s k o (inr (n, g, l, m, q)) =
+    ap (λ (a : Outcome). a .call) q ∙ ap (run unopenedCall) (sym (take-all (k + 1) (eventsOf s) (omega arith)))
 
 -- The meters of the k-th record shown are what each payer owes on the bill of the events up to it (`Told`, crates/rows/proofs/Opened.antt:
 -- of an originating call; a call before its opening has no seconds, and of a destination's nothing is told).
@@ -156,7 +196,7 @@ pub billed-line : (s : List ℕ) (k : ℕ) (x : Shown) → getElem? (shownOf s) 
     Told (x .answer .call) (line (history unopenedCall (take (k + 1) (eventsOf s))))
 billed-line s k x h =
     let es = take (k + 1) (eventsOf s) in
-    subst (λ (c : Call). Told c (line (history unopenedCall es))) (sym (kth-shown s k x h .1)) (line-billed es)
+    subst (λ (c : Call). Told c (line (history unopenedCall es))) (sym (kth-call s k (x .answer) (kth-shown s k x h .1))) (line-billed es)
 
 -- Where those events open an originating call with the flags f, and h are the steps after the opening, the record's text is written with
 -- the bill in place of the call's meters.

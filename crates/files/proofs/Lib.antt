@@ -1,7 +1,9 @@
 pub mod Billed
 pub mod Eight
 pub mod Fits
+pub mod GivenBack
 pub mod Records
 pub mod Texts
 pub mod Turns
+pub mod Unread
 pub mod Worked
