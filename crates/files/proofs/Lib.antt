@@ -3,6 +3,7 @@ pub mod Eight
 pub mod Fits
 pub mod GivenBack
 pub mod Records
+pub mod Same
 pub mod Texts
 pub mod Turns
 pub mod Unread
