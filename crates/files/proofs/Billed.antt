@@ -32,6 +32,7 @@ use Rattle.files.specs.Shown.{Ending, whole, unread, Contents, andThen, 
 use Rattle.files.specs.declared.Frame.{Frame}
 use Rattle.files.specs.declared.Read.{Read}
 use Rattle.files.proofs.Eight.{listing-length}
+use Rattle.files.proofs.Same.{Fitted}
 use Rattle.files.proofs.Unread.{unread-number}
 
 -- ---- The listing's bytes
@@ -216,8 +217,8 @@ pub record Gets (s old : List ℕ) (n : ℕ) (new : List ℕ) : Type 0 where
   -- and the bytes past them stay
   pub beyond : (n ≡ 8 → ⊥) → drop n new ≡ drop n old
 
--- What the contract of `rev_listing` says (its two parts, crates/files/src/listing.rt), as a host meets it.
-pub host-gets : (s old : List ℕ) (n : ℕ) (new : List ℕ) → (n ≡ answers s (listingOf s) old) × (new ≡ leaves s (listingOf s) old) → Gets s old n new
+-- What a host gets by the contract of `rev_listing`, which is `Fitted s (listingOf s) old n new` (Contracts.antt).
+pub host-gets : (s old : List ℕ) (n : ℕ) (new : List ℕ) → Fitted s (listingOf s) old n new → Gets s old n new
 unfolding answers leaves
 host-gets s old n new (e, f) =
     both-lt longest (length s) (λ (_ : ℕ). Gets s old n new) 0 0
