@@ -1,210 +1,34 @@
--- From a file's bytes to the bill (demand 3): the listing is the text of what specs/Shown.antt says, record by record, and the meters
--- of each line are what each payer owes on the bill of the events shown so far.
+-- From the bytes of a file to the bill (demand 3), for a host that calls `rev_listing`:
+--
+--   host-gets     its first n bytes are a header, the text of each record shown, and END with their count;
+--   billed-line   the k-th record shown is the answer to the k-th event, and its meters are what each payer owes on the bill of the
+--                 events up to it: so for an originating call its text is written from the bill.
+--
+-- What a file holds and shows is defined in specs/Shown.antt, the bill in crates/rows/specs/Bill.antt.
 -- Assumes nothing.
-use mathlib.Core.Path.{_≡_, refl, sym, ap, subst, _∙_}
-use mathlib.Core.List.{List, [], _∷_, _++_, append-assoc, append-nil}
-use mathlib.Core.Logic.{_⊎_, inl, inr}
-use mathlib.Core.Option.{Option, none, some}
-use Prim.Native.Nat.{ℕ, zero, suc, _+_, _≤_, _<_}
-use native.Mathlib.Nat.{add-zero, zero-add}
-use native.Mathlib.Numerals.{add-one}
+use mathlib.Core.Path.{_≡_, refl, sym, subst, _∙_}
+use mathlib.Core.List.{List, _++_}
+use mathlib.Core.Logic.{_⊎_}
+use mathlib.Core.Option.{some}
+use Prim.Native.Nat.{ℕ, _+_}
 use native.Mathlib.Omega.{arith}
-use lib.ListN.{length, take, drop, getElem?, length-append}
-use lib.Seq.{append-snoc, take-all, take-append-seam, drop-append-seam}
+use lib.ListN.{length, take, drop, getElem?}
+use lib.Seq.{take-append-seam, drop-append-seam}
 use Rattle.text.specs.Text.{ascii}
-use Rattle.text.proofs.Cases.{yes-lt, no-lt, yes-le, both-lt, both-le}
+use Rattle.text.proofs.Cases.{yes-lt, no-lt, both-lt}
 use Rattle.rows.specs.Bill.{Step, line, originating}
-use Rattle.rows.specs.History.{run, history}
-use Rattle.rows.specs.Perform.{refusedOf}
-use Rattle.rows.specs.Step.{stepOf, unopenedCall}
+use Rattle.rows.specs.History.{history}
+use Rattle.rows.specs.Step.{unopenedCall}
 use Rattle.rows.specs.declared.Call.{Call}
-use Rattle.rows.specs.declared.Event.{Event}
-use Rattle.rows.specs.declared.Outcome.{Outcome}
 use Rattle.rows.proofs.Opened.{Told, line-billed}
 use Rattle.rows.proofs.Whole.{Shows}
-use Rattle.files.specs.Bodies.{readBy, readAt}
 use Rattle.files.specs.Fit.{longest, answers, leaves}
-use Rattle.files.specs.Frames.{frameAt}
 use Rattle.files.specs.Lines.{numberedLine, metersText, lineText, recordText}
-use Rattle.files.specs.Listing.{answerOf, restOf, recordsOf, listingOf}
-use Rattle.files.specs.Places.{placeAfter, placesFrom, placesOf}
-use Rattle.files.specs.Shown.{Ending, whole, unread, Contents, andThen, contentsFrom, contentsOf, eventsOf, Shown, shownAfter, shownOf, shownText, billText, billedText}
-use Rattle.files.specs.declared.Frame.{Frame}
-use Rattle.files.specs.declared.Read.{Read}
+use Rattle.files.specs.Listing.{listingOf}
+use Rattle.files.specs.Shown.{eventsOf, Shown, shownOf, shownText, AnswersEvent, RefusesRecord, billText, billedText}
 use Rattle.files.proofs.Eight.{listing-length}
 use Rattle.files.proofs.Same.{Fitted}
-use Rattle.files.proofs.Unread.{unread-number}
-
--- ---- The listing's bytes
-
--- within the file something stands
-abbrev Stands : Read → Type 0
-Stands Read.End = ⊥
-Stands (Read.Stop n) = Unit {0}
-Stands (Read.Got e next) = Unit {0}
-
-by-frame : (s : List ℕ) (at : ℕ) (f : Frame) → Stands (readBy s at f)
-by-frame s at (Frame.Stop n) = tt
-by-frame s at (Frame.Body kind next) = tt
-
-stands : (s : List ℕ) (at : ℕ) → at < length s → Stands (readAt s at)
-unfolding readAt
-stands s at h = both-le (length s) at Stands _ _ (λ g. absurd (omega arith)) (λ _. by-frame s at (frameAt s at))
-
-past : (s : List ℕ) (at : ℕ) → length s ≤ at → Read.End ≡ readAt s at
-unfolding readAt
-past s at h = yes-le _ _ _ _ _ h refl
-
-no-places : (k : ℕ) (s : List ℕ) (at : ℕ) → length s ≤ at → placesFrom k s at ≡ []
-unfolding placesFrom
-no-places zero s at h = refl
-no-places (suc k) s at h = sym (no-lt _ _ _ _ _ h refl)
-
--- an event more
-run-on : (c : Call) (es : List Event) (e : Event) → run c (es ++ (e ∷ [])) ≡ stepOf (run c es) e .call
-run-on c [] e = refl
-run-on c (x ∷ es) e = run-on (stepOf c x .call) es e
-
-one-more : (es : List Event) (e : Event) → length (es ++ (e ∷ [])) ≡ length es + 1
-one-more es e = length-append es (e ∷ [])
-
--- what is shown after `before`, and END with the count, n of the records being before
-abbrev textAfter : List Event → ℕ → Contents → List ℕ
-textAfter before n x =
-    shownText (shownAfter before (x .events) (x .ending)) ++ numberedLine (ascii "END ") (n + length (shownAfter before (x .events) (x .ending)))
-
--- a record and what comes after it, by what was found
-abbrev turn : List ℕ → ℕ → Call → Read → List ℕ → List ℕ
-turn s n c found places = recordText (n + 1) (answerOf found c) ++ restOf s (n + 1) (answerOf found c .call) places
-
-module _ (k : ℕ) (s : List ℕ) (more : (at : ℕ) (before : List Event) → restOf s (length before) (run unopenedCall before) (placesFrom k s at) ≡ textAfter before (length before) (contentsFrom k s at)) where
-  by-read : (found : Read) (before : List Event) → Stands found →
-      turn s (length before) (run unopenedCall before) found (placesFrom k s (placeAfter found (length s)))
-      ≡ textAfter before (length before) (andThen found (contentsFrom k s))
-  unfolding restOf answerOf placeAfter
-  by-read Read.End before h = absurd h
-  by-read (Read.Stop n) before h =
-      let t = recordText (length before + 1) (refusedOf n (run unopenedCall before)) in
-      ap (λ (ps : List ℕ). t ++ restOf s (length before + 1) (run unopenedCall before) ps) (no-places k s (length s) (omega arith))
-      ∙ ap (λ (u : List ℕ). u ++ numberedLine (ascii "END ") (length before + 1)) (sym (append-nil t))
-  by-read (Read.Got e next) before h =
-      let o = stepOf (run unopenedCall before) e in
-      let t = recordText (length before + 1) o in
-      let d = before ++ (e ∷ []) in
-      let x = contentsFrom k s next in
-      let shown = shownAfter d (x .events) (x .ending) in
-      ap (λ (n : ℕ). t ++ restOf s n (o .call) (placesFrom k s next)) (sym (one-more before e))
-      ∙ ap (λ (c : Call). t ++ restOf s (length d) c (placesFrom k s next)) (sym (run-on unopenedCall before e))
-      ∙ ap (λ (u : List ℕ). t ++ u) (more next d)
-      ∙ sym (append-assoc t (shownText shown) (numberedLine (ascii "END ") (length d + length shown)))
-      ∙ ap (λ (n : ℕ). t ++ shownText shown ++ numberedLine (ascii "END ") n) (omega (arith, one-more before e))
-
-rest-shown : (k : ℕ) (s : List ℕ) (at : ℕ) (before : List Event) →
-    restOf s (length before) (run unopenedCall before) (placesFrom k s at) ≡ textAfter before (length before) (contentsFrom k s at)
-unfolding restOf placesFrom contentsFrom
-rest-shown zero s at before = ap (numberedLine (ascii "END ")) (sym (add-zero (length before)))
-rest-shown (suc k) s at before =
-    both-lt at (length s)
-    (λ (ps : List ℕ). restOf s (length before) (run unopenedCall before) ps ≡ textAfter before (length before) (andThen (readAt s at) (contentsFrom k s)))
-    _ _ (λ h. by-read k s (rest-shown k s) (readAt s at) before (stands s at h))
-    (λ h.
-    ap (numberedLine (ascii "END ")) (sym (add-zero (length before)))
-    ∙ ap (λ (found : Read). textAfter before (length before) (andThen found (contentsFrom k s))) (past s at h))
-
--- The listing of a file is its header, the text of each record shown, and END with their count.
-pub listing-shown : (s : List ℕ) →
-    listingOf s ≡ ascii "REV 1\n" ++ shownText (shownOf s) ++ numberedLine (ascii "END ") (length (shownOf s))
-unfolding listingOf recordsOf placesOf contentsOf shownOf
-listing-shown s =
-    let shown = shownAfter [] (contentsOf s .events) (contentsOf s .ending) in
-    ap (λ (t : List ℕ). ascii "REV 1\n" ++ t) (rest-shown (length s) s 0 [])
-    ∙ ap (λ (n : ℕ). ascii "REV 1\n" ++ shownText shown ++ numberedLine (ascii "END ") n) (zero-add (length shown))
-
--- ---- The k-th record shown, k from 0
-
-told-text : (x : Shown) (f : ℕ) (h : List Step) → Shows (x .answer .call) f h → recordText (x .ordinal) (x .answer) ≡ billedText x f h
-unfolding recordText lineText metersText billedText billText
-told-text x f h t = rw (t .caller, t .called, t .far)
-
-pub none-some : {A P : Type 0} (x : A) → none ≡ some x → P
-none-some x h = let z : _≡_ {A = ℕ} 0 1 = cc in absurd (omega arith)
-
-pub some-some : {A : Type 0} (P : A → Type 0) (y x : A) → some y ≡ some x → P y → P x
-some-some P y x h p = let e : y ≡ x = cc in subst P e p
-
--- the answer to the k-th event, by the call that the events before it reach
-abbrev ByEvent : List Event → List Event → ℕ → Outcome → Type 0
-ByEvent before es k o = (e : Event) × (getElem? es k ≡ some e) × (o ≡ stepOf (run unopenedCall (before ++ take k es)) e)
-
--- after all events, the refusal of a record that cannot be read
-abbrev ByEnding : List Event → List Event → Ending → ℕ → Outcome → Type 0
-ByEnding before es ending k o = (n : ℕ) × (ending ≡ unread n) × (k ≡ length es) × (o ≡ refusedOf n (run unopenedCall (before ++ es)))
-
-abbrev Kth : List Event → List Event → Ending → ℕ → Shown → Type 0
-Kth before es ending k x = (x .ordinal ≡ length before + k + 1) × (ByEvent before es k (x .answer) ⊎ ByEnding before es ending k (x .answer))
-
-after-one : (before es : List Event) (e : Event) (ending : Ending) (k : ℕ) (o : Outcome) →
-    ByEvent (before ++ (e ∷ [])) es k o ⊎ ByEnding (before ++ (e ∷ [])) es ending k o → ByEvent before (e ∷ es) (suc k) o ⊎ ByEnding before (e ∷ es) ending (suc k) o
-after-one before es e ending k o (inl (d, g, q)) = inl (d, g, q ∙ ap (λ (ds : List Event). stepOf (run unopenedCall ds) d) (append-snoc before e (take k es)))
-after-one before es e ending k o (inr (n, g, l, q)) = inr (n, g, ap suc l, q ∙ ap (λ (ds : List Event). refusedOf n (run unopenedCall ds)) (append-snoc before e es))
-
-kth : (before es : List Event) (ending : Ending) (k : ℕ) (x : Shown) → getElem? (shownAfter before es ending) k ≡ some x → Kth before es ending k x
-kth before [] whole k x h = none-some x h
-kth before [] (unread n) zero x h =
-    some-some (Kth before [] (unread n) 0) _ x h
-    (omega arith, inr (n, refl, refl, ap (λ (ds : List Event). refusedOf n (run unopenedCall ds)) (sym (append-nil before))))
-kth before [] (unread n) (suc k) x h = none-some x h
-kth before (e ∷ es) ending zero x h =
-    some-some (Kth before (e ∷ es) ending 0) _ x h
-    (omega arith, inl (e, refl, ap (λ (ds : List Event). stepOf (run unopenedCall ds) e) (sym (append-nil before))))
-kth before (e ∷ es) ending (suc k) x h =
-    let i = kth (before ++ (e ∷ [])) es ending k x h in
-    (omega (arith, i .0, one-more before e), after-one before es e ending k (x .answer) (i .1))
-
--- The answer to the k-th event, of the call that the events before it reach.
-abbrev pub Answers : List ℕ → ℕ → Outcome → Type 0
-Answers s k o = (e : Event) × (getElem? (eventsOf s) k ≡ some e) × (o ≡ stepOf (run unopenedCall (take k (eventsOf s))) e)
-
--- The refusal, after all events, of a record that cannot be read: 5, 6 or 7, and the call as it stood.
-abbrev pub Refuses : List ℕ → ℕ → Outcome → Type 0
-Refuses s k o = (n : ℕ) × (5 ≤ n) × (n ≤ 7) × (k ≡ length (eventsOf s)) × (o ≡ refusedOf n (run unopenedCall (eventsOf s)))
-
--- The k-th record shown has the ordinal k + 1, and answers the k-th event; or, after all events, refuses a record that cannot be read.
-pub kth-shown : (s : List ℕ) (k : ℕ) (x : Shown) → getElem? (shownOf s) k ≡ some x →
-    (x .ordinal ≡ k + 1) × (Answers s k (x .answer) ⊎ Refuses s k (x .answer))
-unfolding shownOf
-kth-shown s k x h = let i = kth [] (eventsOf s) (contentsOf s .ending) k x h in (omega (arith, i .0), told (i .1))
-  where
-    told : {o : Outcome} → ByEvent [] (eventsOf s) k o ⊎ ByEnding [] (eventsOf s) (contentsOf s .ending) k o → Answers s k o ⊎ Refuses s k o
-    told (inl i) = inl i
-    told (inr (n, g, l, q)) = inr (n, unread-number s n g .0, unread-number s n g .1, l, q)
-
--- its call is the one that the events up to it reach
-one-taken : (c : Call) (es : List Event) (k : ℕ) (e : Event) → getElem? es k ≡ some e → stepOf (run c (take k es)) e .call ≡ run c (take (suc k) es)
-one-taken c [] k e h = none-some e h
-one-taken c (d ∷ es) zero e h = some-some (λ (x : Event). stepOf c x .call ≡ stepOf c d .call) d e h refl
-one-taken c (d ∷ es) (suc k) e h = one-taken (stepOf c d .call) es k e h
-
-kth-call : (s : List ℕ) (k : ℕ) (o : Outcome) → Answers s k o ⊎ Refuses s k o → o .call ≡ run unopenedCall (take (k + 1) (eventsOf s))
-kth-call s k o (inl (e, h, q)) =
-    ap (λ (a : Outcome). a .call) q ∙ one-taken unopenedCall (eventsOf s) k e h ∙ ap (λ (n : ℕ). run unopenedCall (take n (eventsOf s))) (sym (add-one k))
-kth-call s k o (inr (n, g, l, m, q)) =
-    ap (λ (a : Outcome). a .call) q ∙ ap (run unopenedCall) (sym (take-all (k + 1) (eventsOf s) (omega arith)))
-
--- The meters of the k-th record shown are what each payer owes on the bill of the events up to it (`Told`, crates/rows/proofs/Opened.antt:
--- of an originating call; a call before its opening has no seconds, and of a destination's nothing is told).
-pub billed-line : (s : List ℕ) (k : ℕ) (x : Shown) → getElem? (shownOf s) k ≡ some x →
-    Told (x .answer .call) (line (history unopenedCall (take (k + 1) (eventsOf s))))
-billed-line s k x h =
-    let es = take (k + 1) (eventsOf s) in
-    subst (λ (c : Call). Told c (line (history unopenedCall es))) (sym (kth-call s k (x .answer) (kth-shown s k x h .1))) (line-billed es)
-
--- Where those events open an originating call with the flags f, and h are the steps after the opening, the record's text is written with
--- the bill in place of the call's meters.
-pub billed-text : (s : List ℕ) (k : ℕ) (x : Shown) → getElem? (shownOf s) k ≡ some x → (f : ℕ) (h : List Step) →
-    line (history unopenedCall (take (k + 1) (eventsOf s))) ≡ originating f h → recordText (x .ordinal) (x .answer) ≡ billedText x f h
-unfolding recordText lineText metersText billedText billText
-billed-text s k x g f h e = told-text x f h (subst (Told (x .answer .call)) e (billed-line s k x g))
+use Rattle.files.proofs.Shown.{listing-shown, kth-shown, kth-call}
 
 -- ---- What a host gets
 
@@ -238,3 +62,33 @@ host-gets s old n new (e, f) =
           listing = λ _. rw (e, f) (take-append-seam (listingOf s) (drop (length (listingOf s)) old) ∙ listing-shown s);
           beyond = λ _. rw (e, f) (drop-append-seam (listingOf s) (drop (length (listingOf s)) old));
         }
+
+-- ---- The k-th record shown, k from 0
+
+pub record Line (s : List ℕ) (k : ℕ) (x : Shown) : Type 0 where
+  pub ordinal : x .ordinal ≡ k + 1
+  -- the answer to the k-th event; or, after all events, the refusal of a record that cannot be read
+  pub answer : AnswersEvent s k (x .answer) ⊎ RefusesRecord s k (x .answer)
+  -- its meters show the bill of the events up to it (`Told`, crates/rows/proofs/Opened.antt): of an originating call each meter is what its
+  -- payer owes, and they add up to the answered seconds; before an opening the call is as at first; of a destination's nothing is told
+  pub meters : Told (x .answer .call) (line (history unopenedCall (take (k + 1) (eventsOf s))))
+  -- so where an originating call was opened with the flags f, and h are the steps after the opening, its text is written from the bill
+  pub text : (f : ℕ) (h : List Step) → line (history unopenedCall (take (k + 1) (eventsOf s))) ≡ originating f h →
+      recordText (x .ordinal) (x .answer) ≡ billedText x f h
+
+told-text : (x : Shown) (f : ℕ) (h : List Step) → Shows (x .answer .call) f h → recordText (x .ordinal) (x .answer) ≡ billedText x f h
+unfolding recordText lineText metersText billedText billText
+told-text x f h t = rw (t .caller, t .called, t .far)
+
+told-line : (s : List ℕ) (k : ℕ) (x : Shown) → AnswersEvent s k (x .answer) ⊎ RefusesRecord s k (x .answer) →
+    Told (x .answer .call) (line (history unopenedCall (take (k + 1) (eventsOf s))))
+told-line s k x h =
+    let es = take (k + 1) (eventsOf s) in
+    subst (λ (c : Call). Told c (line (history unopenedCall es))) (sym (kth-call s k (x .answer) h)) (line-billed es)
+
+-- Of every file, every record shown.
+pub billed-line : (s : List ℕ) (k : ℕ) (x : Shown) → getElem? (shownOf s) k ≡ some x → Line s k x
+billed-line s k x g =
+    let i = kth-shown s k x g in
+    let t = told-line s k x (i .1) in
+    record { ordinal = i .0; answer = i .1; meters = t; text = λ f h e. told-text x f h (subst (Told (x .answer .call)) e t) }

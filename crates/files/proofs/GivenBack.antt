@@ -14,8 +14,8 @@ use Rattle.rows.specs.Step.{stepOf, unopenedCall}
 use Rattle.rows.specs.declared.Call.{Call}
 use Rattle.rows.specs.declared.Event.{Event}
 use Rattle.rows.specs.declared.Outcome.{Outcome}
-use Rattle.files.specs.Shown.{eventsOf, Shown, shownOf}
-use Rattle.files.proofs.Billed.{none-some, some-some, Answers, Refuses, kth-shown}
+use Rattle.files.specs.Shown.{eventsOf, Shown, shownOf, AnswersEvent, RefusesRecord}
+use Rattle.files.proofs.Shown.{none-some, some-some, kth-shown}
 
 -- the k-th step of a history is written by the k-th event and the answer to it
 kth-step : (c : Call) (es : List Event) (k : ℕ) (e : Event) → getElem? es k ≡ some e →
@@ -30,7 +30,7 @@ pub numbered-line : (s : List ℕ) (k : ℕ) (x : Shown) → getElem? (shownOf s
     ⊎ ((5 ≤ x .answer .number) × (x .answer .number ≤ 7))
 numbered-line s k x h = by (kth-shown s k x h .1)
   where
-    by : Answers s k (x .answer) ⊎ Refuses s k (x .answer) →
+    by : AnswersEvent s k (x .answer) ⊎ RefusesRecord s k (x .answer) →
         ((t : Step) × (getElem? (history unopenedCall (eventsOf s)) k ≡ some t) × (x .answer .number ≡ t .number))
         ⊎ ((5 ≤ x .answer .number) × (x .answer .number ≤ 7))
     by (inl (e, g, q)) =
@@ -50,6 +50,6 @@ numbers-hold P a b c each s k x h = by (kth-shown s k x h .1)
         both-eq n 6 (λ (_ : ℕ). P n) 0 0 (λ e. subst P (sym e) b) λ v.
         (let e : 7 ≡ n = omega arith in subst P e c)
 
-    by : Answers s k (x .answer) ⊎ Refuses s k (x .answer) → P (x .answer .number)
+    by : AnswersEvent s k (x .answer) ⊎ RefusesRecord s k (x .answer) → P (x .answer .number)
     by (inl (e, g, q)) = subst (λ (o : Outcome). P (o .number)) (sym q) (each (take k (eventsOf s)) e)
     by (inr (n, p, q, l, r)) = subst (λ (o : Outcome). P (o .number)) (sym r) (five-to-seven n p q)

@@ -5,6 +5,7 @@ pub mod Fits
 pub mod GivenBack
 pub mod Records
 pub mod Same
+pub mod Shown
 pub mod Texts
 pub mod Turns
 pub mod Unread

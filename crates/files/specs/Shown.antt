@@ -1,9 +1,11 @@
 -- What a file holds, and what its listing shows of it: said by the events alone, with `run` and `stepOf`. proofs/Billed.antt proves that
 -- the listing is the text of this, and that its meters are the bill of the events shown.
 -- Assumes nothing.
+use mathlib.Core.Path.{_≡_}
 use mathlib.Core.List.{List, [], _∷_, _++_}
-use Prim.Native.Nat.{ℕ, zero, suc, _+_}
-use lib.ListN.{length}
+use mathlib.Core.Option.{some}
+use Prim.Native.Nat.{ℕ, zero, suc, _+_, _≤_}
+use lib.ListN.{length, take, getElem?}
 use Rattle.meters.specs.declared.Payer.the-variants.{Caller, Called, Far}
 use Rattle.text.specs.Choose.{ifEq}
 use Rattle.text.specs.Text.{ascii, decimal, numbered}
@@ -70,6 +72,16 @@ shownOf s = shownAfter [] (contentsOf s .events) (contentsOf s .ending)
 abbrev pub shownText : List Shown → List ℕ
 shownText [] = []
 shownText (x ∷ xs) = recordText (x .ordinal) (x .answer) ++ shownText xs
+
+-- ---- An answer o to the k-th record, k from 0
+
+-- the answer to the k-th event, of the call that the events before it reach
+abbrev pub AnswersEvent : List ℕ → ℕ → Outcome → Type 0
+AnswersEvent s k o = (e : Event) × (getElem? (eventsOf s) k ≡ some e) × (o ≡ stepOf (run unopenedCall (take k (eventsOf s))) e)
+
+-- after all events, the refusal of a record that cannot be read: 5, 6 or 7, and the call as it stood
+abbrev pub RefusesRecord : List ℕ → ℕ → Outcome → Type 0
+RefusesRecord s k o = (n : ℕ) × (5 ≤ n) × (n ≤ 7) × (k ≡ length (eventsOf s)) × (o ≡ refusedOf n (run unopenedCall (eventsOf s)))
 
 -- ---- A record's text with its meters taken from the bill, and not from the call
 
