@@ -37,7 +37,11 @@ module _ {M : Type 1} (𝓤 : URA M) (H : Heap 𝓤) (A : Atoms 𝓤) (mem : Mem
   abbrev pub Promises : (T : Ended) (κs : Lfts (T .signature .lifetimes)) (a : Args (T .signature) κs) →
       (Res (T .signature) κs → Outs κs (T .signature .params) (T .kept) → Type 0) → SpecAt 𝓤 (T .signature) κs
   Promises T κs a P =
-      record { ghost = Unit {0}; requires = λ _. emp 𝓤; ensures = λ _ r. exits 𝓤 H A (T .signature) (T .kept) κs a (λ last. fact 𝓤 (P r last)) }
+      record {
+        ghost = Unit {0};
+        requires = λ _. emp 𝓤;
+        ensures = λ _ r. exits 𝓤 H A (T .signature) (T .kept) κs a (λ last. fact 𝓤 (P r last));
+      }
 
   -- a .0 is the file, a .1 .0 the buffer
   pub rev-listing-says : (κs : Lfts 2) (a : Args rev-listing.signature κs) →
@@ -51,7 +55,8 @@ module _ {M : Type 1} (𝓤 : URA M) (H : Heap 𝓤) (A : Atoms 𝓤) (mem : Mem
   rev-dump-says κs a = refl
 
   -- a .0 is the slice
-  pub open-says : (κs : Lfts 1) (a : Args opens.signature κs) → opens.spec 𝓤 H A mem run κs a ≡ Promises opens.ended κs a (λ r last. Opened (a .0) r)
+  pub open-says : (κs : Lfts 1) (a : Args opens.signature κs) →
+      opens.spec 𝓤 H A mem run κs a ≡ Promises opens.ended κs a (λ r last. Opened (a .0) r)
   open-says κs a = refl
 
   -- a .0 is the reader

@@ -43,7 +43,8 @@ listing-length s = omega (arith, rest-least s 0 unopenedCall (placesOf s))
 -- Every dump has at least 10 bytes: `RECORDS 0` and its end of line.
 pub dump-length : (s : List ℕ) → 10 ≤ length (dumpOf s)
 unfolding dumpOf
-dump-length s = front-least 10 (numberedLine (ascii "RECORDS ") (length (placesOf s))) _ (line-least (ascii "RECORDS ") (length (placesOf s)))
+dump-length s =
+    front-least 10 (numberedLine (ascii "RECORDS ") (length (placesOf s))) _ (line-least (ascii "RECORDS ") (length (placesOf s)))
 
 -- of any text that is longer than 8 bytes
 eight-means : (s t out : List ℕ) → 8 < length t → (answers s t out ≡ tooLong) ↔ ((longest < length s) ⊎ (length out < length t))

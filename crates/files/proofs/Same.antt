@@ -17,7 +17,8 @@ abbrev pub Fitted : List ℕ → List ℕ → List ℕ → ℕ → List ℕ → 
 Fitted s t old r new = (r ≡ answers s t old) × (new ≡ leaves s t old)
 
 -- For one file and one buffer there is one number, and one content of the buffer after it.
-pub fitted-same : (s t old : List ℕ) {r r′ : ℕ} {new new′ : List ℕ} → Fitted s t old r new → Fitted s t old r′ new′ → (r ≡ r′) × (new ≡ new′)
+pub fitted-same : (s t old : List ℕ) {r r′ : ℕ} {new new′ : List ℕ} →
+    Fitted s t old r new → Fitted s t old r′ new′ → (r ≡ r′) × (new ≡ new′)
 fitted-same s t old p q = (same (p .0) (q .0), same (p .1) (q .1))
 
 -- What `open` says: a reader over these bytes, at the first.
@@ -41,5 +42,6 @@ Moved before f after =
     × (after .at ≡ placeAfter (readAt (now (before .src)) (before .at)) (before .at))
 
 -- From one reader there is one thing found, and one reader after it.
-pub moved-same : (before : Reader) {f f′ : Read} {after after′ : Reader} → Moved before f after → Moved before f′ after′ → (f ≡ f′) × (after ≡ after′)
+pub moved-same : (before : Reader) {f f′ : Read} {after after′ : Reader} →
+    Moved before f after → Moved before f′ after′ → (f ≡ f′) × (after ≡ after′)
 moved-same before p q = (same (p .0) (q .0), reader-is (same (p .1) (q .1)) (same (p .2) (q .2)))

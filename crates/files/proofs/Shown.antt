@@ -89,13 +89,19 @@ one-more es e = length-append es (e ∷ [])
 -- what is shown after `before`, and END with the count, n of the records being before
 abbrev textAfter : List Event → ℕ → Contents → List ℕ
 textAfter before n x =
-    shownText (shownAfter before (x .events) (x .ending)) ++ numberedLine (ascii "END ") (n + length (shownAfter before (x .events) (x .ending)))
+    shownText (shownAfter before (x .events) (x .ending))
+    ++ numberedLine (ascii "END ") (n + length (shownAfter before (x .events) (x .ending)))
 
 -- a record and what comes after it, by what was found
 abbrev turn : List ℕ → ℕ → Call → Read → List ℕ → List ℕ
 turn s n c found places = recordText (n + 1) (answerOf found c) ++ restOf s (n + 1) (answerOf found c .call) places
 
-module _ (k : ℕ) (s : List ℕ) (more : (at : ℕ) (before : List Event) → restOf s (length before) (run unopenedCall before) (placesFrom k s at) ≡ textAfter before (length before) (contentsFrom k s at)) where
+-- the records from a place on, k at most, are shown so
+abbrev RestShown : ℕ → List ℕ → ℕ → List Event → Type 0
+RestShown k s at before =
+    restOf s (length before) (run unopenedCall before) (placesFrom k s at) ≡ textAfter before (length before) (contentsFrom k s at)
+
+module _ (k : ℕ) (s : List ℕ) (more : (at : ℕ) (before : List Event) → RestShown k s at before) where
   by-read : (found : Read) (before : List Event) → Stands found →
       turn s (length before) (run unopenedCall before) found (placesFrom k s (placeAfter found (length s)))
       ≡ textAfter before (length before) (andThen found (contentsFrom k s))
@@ -117,13 +123,13 @@ module _ (k : ℕ) (s : List ℕ) (more : (at : ℕ) (before : List Event) → r
       ∙ sym (append-assoc t (shownText shown) (numberedLine (ascii "END ") (length d + length shown)))
       ∙ ap (λ (n : ℕ). t ++ shownText shown ++ numberedLine (ascii "END ") n) (omega (arith, one-more before e))
 
-rest-shown : (k : ℕ) (s : List ℕ) (at : ℕ) (before : List Event) →
-    restOf s (length before) (run unopenedCall before) (placesFrom k s at) ≡ textAfter before (length before) (contentsFrom k s at)
+rest-shown : (k : ℕ) (s : List ℕ) (at : ℕ) (before : List Event) → RestShown k s at before
 unfolding restOf placesFrom contentsFrom
 rest-shown zero s at before = ap (numberedLine (ascii "END ")) (sym (add-zero (length before)))
 rest-shown (suc k) s at before =
     both-lt at (length s)
-    (λ (ps : List ℕ). restOf s (length before) (run unopenedCall before) ps ≡ textAfter before (length before) (andThen (readAt s at) (contentsFrom k s)))
+    (λ (ps : List ℕ).
+    restOf s (length before) (run unopenedCall before) ps ≡ textAfter before (length before) (andThen (readAt s at) (contentsFrom k s)))
     _ _ (λ h. by-read k s (rest-shown k s) (readAt s at) before (stands s at h))
     (λ h.
     ap (numberedLine (ascii "END ")) (sym (add-zero (length before)))
@@ -155,14 +161,19 @@ abbrev ByEnding : List Event → List Event → Ending → ℕ → Outcome → T
 ByEnding before es ending k o = (n : ℕ) × (ending ≡ unread n) × (k ≡ length es) × (o ≡ refusedOf n (run unopenedCall (before ++ es)))
 
 abbrev Kth : List Event → List Event → Ending → ℕ → Shown → Type 0
-Kth before es ending k x = (x .ordinal ≡ length before + k + 1) × (ByEvent before es k (x .answer) ⊎ ByEnding before es ending k (x .answer))
+Kth before es ending k x =
+    (x .ordinal ≡ length before + k + 1) × (ByEvent before es k (x .answer) ⊎ ByEnding before es ending k (x .answer))
 
 after-one : (before es : List Event) (e : Event) (ending : Ending) (k : ℕ) (o : Outcome) →
-    ByEvent (before ++ (e ∷ [])) es k o ⊎ ByEnding (before ++ (e ∷ [])) es ending k o → ByEvent before (e ∷ es) (suc k) o ⊎ ByEnding before (e ∷ es) ending (suc k) o
-after-one before es e ending k o (inl (d, g, q)) = inl (d, g, q ∙ ap (λ (ds : List Event). stepOf (run unopenedCall ds) d) (append-snoc before e (take k es)))
-after-one before es e ending k o (inr (n, g, l, q)) = inr (n, g, ap suc l, q ∙ ap (λ (ds : List Event). refusedOf n (run unopenedCall ds)) (append-snoc before e es))
+    ByEvent (before ++ (e ∷ [])) es k o ⊎ ByEnding (before ++ (e ∷ [])) es ending k o →
+    ByEvent before (e ∷ es) (suc k) o ⊎ ByEnding before (e ∷ es) ending (suc k) o
+after-one before es e ending k o (inl (d, g, q)) =
+    inl (d, g, q ∙ ap (λ (ds : List Event). stepOf (run unopenedCall ds) d) (append-snoc before e (take k es)))
+after-one before es e ending k o (inr (n, g, l, q)) =
+    inr (n, g, ap suc l, q ∙ ap (λ (ds : List Event). refusedOf n (run unopenedCall ds)) (append-snoc before e es))
 
-kth : (before es : List Event) (ending : Ending) (k : ℕ) (x : Shown) → getElem? (shownAfter before es ending) k ≡ some x → Kth before es ending k x
+kth : (before es : List Event) (ending : Ending) (k : ℕ) (x : Shown) →
+    getElem? (shownAfter before es ending) k ≡ some x → Kth before es ending k x
 kth before [] whole k x h = none-some x h
 kth before [] (unread n) zero x h =
     some-some (Kth before [] (unread n) 0) _ x h
@@ -181,18 +192,22 @@ pub kth-shown : (s : List ℕ) (k : ℕ) (x : Shown) → getElem? (shownOf s) k 
 unfolding shownOf
 kth-shown s k x h = let i = kth [] (eventsOf s) (contentsOf s .ending) k x h in (omega (arith, i .0), told (i .1))
   where
-    told : {o : Outcome} → ByEvent [] (eventsOf s) k o ⊎ ByEnding [] (eventsOf s) (contentsOf s .ending) k o → AnswersEvent s k o ⊎ RefusesRecord s k o
+    told : {o : Outcome} → ByEvent [] (eventsOf s) k o ⊎ ByEnding [] (eventsOf s) (contentsOf s .ending) k o →
+        AnswersEvent s k o ⊎ RefusesRecord s k o
     told (inl i) = inl i
     told (inr (n, g, l, q)) = inr (n, unread-number s n g .0, unread-number s n g .1, l, q)
 
-one-taken : (c : Call) (es : List Event) (k : ℕ) (e : Event) → getElem? es k ≡ some e → stepOf (run c (take k es)) e .call ≡ run c (take (suc k) es)
+one-taken : (c : Call) (es : List Event) (k : ℕ) (e : Event) → getElem? es k ≡ some e →
+    stepOf (run c (take k es)) e .call ≡ run c (take (suc k) es)
 one-taken c [] k e h = none-some e h
 one-taken c (d ∷ es) zero e h = some-some (λ (x : Event). stepOf c x .call ≡ stepOf c d .call) d e h refl
 one-taken c (d ∷ es) (suc k) e h = one-taken (stepOf c d .call) es k e h
 
 -- Its call is the one that the events up to it reach.
-pub kth-call : (s : List ℕ) (k : ℕ) (o : Outcome) → AnswersEvent s k o ⊎ RefusesRecord s k o → o .call ≡ run unopenedCall (take (k + 1) (eventsOf s))
+pub kth-call : (s : List ℕ) (k : ℕ) (o : Outcome) → AnswersEvent s k o ⊎ RefusesRecord s k o →
+    o .call ≡ run unopenedCall (take (k + 1) (eventsOf s))
 kth-call s k o (inl (e, h, q)) =
-    ap (λ (a : Outcome). a .call) q ∙ one-taken unopenedCall (eventsOf s) k e h ∙ ap (λ (n : ℕ). run unopenedCall (take n (eventsOf s))) (sym (add-one k))
+    ap (λ (a : Outcome). a .call) q ∙ one-taken unopenedCall (eventsOf s) k e h
+    ∙ ap (λ (n : ℕ). run unopenedCall (take n (eventsOf s))) (sym (add-one k))
 kth-call s k o (inr (n, g, l, m, q)) =
     ap (λ (a : Outcome). a .call) q ∙ ap (run unopenedCall) (sym (take-all (k + 1) (eventsOf s) (omega arith)))

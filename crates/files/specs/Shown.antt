@@ -88,7 +88,9 @@ RefusesRecord s k o = (n : ℕ) × (5 ≤ n) × (n ≤ 7) × (k ≡ length (even
 -- "caller, called, far": what each owes on the bill of these steps, f being the opening's flags
 unfoldable pub billText : ℕ → List Step → List ℕ
 billText f h =
-    numbered (ascii " ") (owed Caller (bill f h)) ++ numbered (ascii " ") (owed Called (bill f h)) ++ numbered (ascii " ") (owed Far (bill f h))
+    numbered (ascii " ") (owed Caller (bill f h))
+    ++ numbered (ascii " ") (owed Called (bill f h))
+    ++ numbered (ascii " ") (owed Far (bill f h))
 
 -- "its ordinal, number, phase, REV state, caller, called, far; then its actions"
 unfoldable pub billedText : Shown → ℕ → List Step → List ℕ

@@ -23,7 +23,8 @@ by-value (suc k) n h =
     let t = decimalBy k (n / 10) in
     let g : n / 10 < 10 ^ k = omega (arith, pow-suc 10 k) in
     value-on 0 (ifLt n 10 [] t) (digitOf n)
-    ∙ both-lt n 10 (λ (l : List ℕ). 10 * valueOf l + (digitOf n - 48) ≡ n) [] t (λ p. omega arith) (λ _. omega (arith, by-value k (n / 10) g))
+    ∙ both-lt n 10 (λ (l : List ℕ). 10 * valueOf l + (digitOf n - 48) ≡ n) [] t
+    (λ p. omega arith) (λ _. omega (arith, by-value k (n / 10) g))
 
 -- A number of at most ten digits, as every number of 32 bits is, is what its text says.
 pub decimal-value : (n : ℕ) → n < 10 ^ 10 → valueOf (decimal n) ≡ n
