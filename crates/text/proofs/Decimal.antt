@@ -1,4 +1,4 @@
--- The text of a number says that number, and has a digit at least.
+-- The text of a number is digits, one at least, and says that number.
 -- Assumes nothing.
 use mathlib.Core.Path.{_≡_, refl, sym, ap, _∙_}
 use mathlib.Core.List.{List, [], _∷_, _++_}
@@ -8,8 +8,10 @@ use native.Mathlib.Omega.{arith}
 use lib.ListN.{length, length-append}
 use Rattle.text.specs.Choose.{ifLt}
 use Rattle.text.specs.Text.{digitOf, lastDigits, decimalBy, decimal}
-use Rattle.text.specs.Value.{valueFrom, valueOf}
+use Rattle.text.specs.Value.{AllDigits, valueFrom, valueOf}
 use Rattle.text.proofs.Cases.{both-lt}
+
+-- ---- What it says
 
 -- one digit more
 value-on : (m : ℕ) (t : List ℕ) (d : ℕ) → valueFrom m (t ++ (d ∷ [])) ≡ 10 * valueFrom m t + (d - 48)
@@ -38,6 +40,30 @@ digits-value zero n h = omega arith
 digits-value (suc k) n h =
     let g : n / 10 < 10 ^ k = omega (arith, pow-suc 10 k) in
     value-on 0 (lastDigits k (n / 10)) (digitOf n) ∙ omega (arith, digits-value k (n / 10) g)
+
+-- ---- Digits, and one at least
+
+digits-more : (t : List ℕ) (n : ℕ) → AllDigits t → AllDigits (t ++ (digitOf n ∷ []))
+digits-more [] n h = (omega arith, omega arith, tt)
+digits-more (x ∷ t) n h = (h .0, h .1, digits-more t n (h .2))
+
+by-digits : (k n : ℕ) → AllDigits (decimalBy k n)
+unfolding decimalBy
+by-digits zero n = tt
+by-digits (suc k) n =
+    let t = decimalBy k (n / 10) in
+    digits-more (ifLt n 10 [] t) n (both-lt n 10 AllDigits [] t (λ _. tt) (λ _. by-digits k (n / 10)))
+
+-- The text of a number is digits and nothing else.
+pub decimal-digits : (n : ℕ) → AllDigits (decimal n)
+unfolding decimal
+decimal-digits n = by-digits 10 n
+
+-- So are its last k digits.
+pub last-digits : (k n : ℕ) → AllDigits (lastDigits k n)
+unfolding lastDigits
+last-digits zero n = tt
+last-digits (suc k) n = digits-more (lastDigits k (n / 10)) n (last-digits k (n / 10))
 
 -- A number's text has a digit at least.
 pub decimal-some : (n : ℕ) → 1 ≤ length (decimal n)
