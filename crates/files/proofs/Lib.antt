@@ -1,5 +1,12 @@
+pub mod Billed
+pub mod Contracts
+pub mod Eight
 pub mod Fits
+pub mod GivenBack
 pub mod Records
+pub mod Same
+pub mod Shown
 pub mod Texts
 pub mod Turns
+pub mod Unread
 pub mod Worked

@@ -1,0 +1,94 @@
+-- From the bytes of a file to the bill (demand 3), for a host that calls `rev_listing`:
+--
+--   host-gets     its first n bytes are a header, the text of each record shown, and END with their count;
+--   billed-line   the k-th record shown is the answer to the k-th event, and its meters are what each payer owes on the bill of the
+--                 events up to it: so for an originating call its text is written from the bill.
+--
+-- What a file holds and shows is defined in specs/Shown.antt, the bill in crates/rows/specs/Bill.antt.
+-- Assumes nothing.
+use mathlib.Core.Path.{_≡_, refl, sym, subst, _∙_}
+use mathlib.Core.List.{List, _++_}
+use mathlib.Core.Logic.{_⊎_}
+use mathlib.Core.Option.{some}
+use Prim.Native.Nat.{ℕ, _+_}
+use native.Mathlib.Omega.{arith}
+use lib.ListN.{length, take, drop, getElem?}
+use lib.Seq.{take-append-seam, drop-append-seam}
+use Rattle.text.specs.Text.{ascii}
+use Rattle.text.proofs.Cases.{yes-lt, no-lt, both-lt}
+use Rattle.rows.specs.Bill.{Step, line, originating}
+use Rattle.rows.specs.History.{history}
+use Rattle.rows.specs.Step.{unopenedCall}
+use Rattle.rows.specs.declared.Call.{Call}
+use Rattle.rows.proofs.Opened.{Told, line-billed}
+use Rattle.rows.proofs.Whole.{Shows}
+use Rattle.files.specs.Fit.{longest, answers, leaves}
+use Rattle.files.specs.Lines.{numberedLine, metersText, lineText, recordText}
+use Rattle.files.specs.Listing.{listingOf}
+use Rattle.files.specs.Shown.{eventsOf, Shown, shownOf, shownText, AnswersEvent, RefusesRecord, billText, billedText}
+use Rattle.files.proofs.Eight.{listing-length}
+use Rattle.files.proofs.Same.{Fitted}
+use Rattle.files.proofs.Shown.{listing-shown, kth-shown, kth-call}
+
+-- ---- What a host gets
+
+-- `rev_listing` gave n for the file s, and left the buffer `new` where `old` was
+pub record Gets (s old : List ℕ) (n : ℕ) (new : List ℕ) : Type 0 where
+  -- 8: the buffer is as it was
+  pub refused : n ≡ 8 → new ≡ old
+  -- any other n: the first n bytes are the header, the text of each record shown, and END with their count
+  pub listing : (n ≡ 8 → ⊥) → take n new ≡ ascii "REV 1\n" ++ shownText (shownOf s) ++ numberedLine (ascii "END ") (length (shownOf s))
+  -- and the bytes past them stay
+  pub beyond : (n ≡ 8 → ⊥) → drop n new ≡ drop n old
+
+-- What a host gets by the contract of `rev_listing`, which is `Fitted s (listingOf s) old n new` (Contracts.antt).
+pub host-gets : (s old : List ℕ) (n : ℕ) (new : List ℕ) → Fitted s (listingOf s) old n new → Gets s old n new
+unfolding answers leaves
+host-gets s old n new (e, f) =
+    both-lt longest (length s) (λ (_ : ℕ). Gets s old n new) 0 0
+    (λ p. not-given (e ∙ sym (yes-lt _ _ _ _ _ p refl)) (f ∙ sym (yes-lt _ _ _ _ _ p refl)))
+    λ p.
+    both-lt (length old) (length (listingOf s)) (λ (_ : ℕ). Gets s old n new) 0 0
+    (λ q. not-given (e ∙ sym (no-lt _ _ _ _ _ p (yes-lt _ _ _ _ _ q refl))) (f ∙ sym (no-lt _ _ _ _ _ p (yes-lt _ _ _ _ _ q refl))))
+    (λ q. given (e ∙ sym (no-lt _ _ _ _ _ p (no-lt _ _ _ _ _ q refl))) (f ∙ sym (no-lt _ _ _ _ _ p (no-lt _ _ _ _ _ q refl))))
+  where
+    not-given : n ≡ 8 → new ≡ old → Gets s old n new
+    not-given e f = record { refused = λ _. f; listing = λ g. absurd (g e); beyond = λ g. absurd (g e) }
+
+    given : n ≡ length (listingOf s) → new ≡ listingOf s ++ drop (length (listingOf s)) old → Gets s old n new
+    given e f =
+        record {
+          refused = λ g. absurd (omega (arith, listing-length s));
+          listing = λ _. rw (e, f) (take-append-seam (listingOf s) (drop (length (listingOf s)) old) ∙ listing-shown s);
+          beyond = λ _. rw (e, f) (drop-append-seam (listingOf s) (drop (length (listingOf s)) old));
+        }
+
+-- ---- The k-th record shown, k from 0
+
+pub record Line (s : List ℕ) (k : ℕ) (x : Shown) : Type 0 where
+  pub ordinal : x .ordinal ≡ k + 1
+  -- the answer to the k-th event; or, after all events, the refusal of a record that cannot be read
+  pub answer : AnswersEvent s k (x .answer) ⊎ RefusesRecord s k (x .answer)
+  -- its meters show the bill of the events up to it (`Told`, crates/rows/proofs/Opened.antt): of an originating call each meter is what its
+  -- payer owes, and they add up to the answered seconds; before an opening the call is as at first; of a destination's nothing is told
+  pub meters : Told (x .answer .call) (line (history unopenedCall (take (k + 1) (eventsOf s))))
+  -- so where an originating call was opened with the flags f, and h are the steps after the opening, its text is written from the bill
+  pub text : (f : ℕ) (h : List Step) → line (history unopenedCall (take (k + 1) (eventsOf s))) ≡ originating f h →
+      recordText (x .ordinal) (x .answer) ≡ billedText x f h
+
+told-text : (x : Shown) (f : ℕ) (h : List Step) → Shows (x .answer .call) f h → recordText (x .ordinal) (x .answer) ≡ billedText x f h
+unfolding recordText lineText metersText billedText billText
+told-text x f h t = rw (t .caller, t .called, t .far)
+
+told-line : (s : List ℕ) (k : ℕ) (x : Shown) → AnswersEvent s k (x .answer) ⊎ RefusesRecord s k (x .answer) →
+    Told (x .answer .call) (line (history unopenedCall (take (k + 1) (eventsOf s))))
+told-line s k x h =
+    let es = take (k + 1) (eventsOf s) in
+    subst (λ (c : Call). Told c (line (history unopenedCall es))) (sym (kth-call s k (x .answer) h)) (line-billed es)
+
+-- Of every file, every record shown.
+pub billed-line : (s : List ℕ) (k : ℕ) (x : Shown) → getElem? (shownOf s) k ≡ some x → Line s k x
+billed-line s k x g =
+    let i = kth-shown s k x g in
+    let t = told-line s k x (i .1) in
+    record { ordinal = i .0; answer = i .1; meters = t; text = λ f h e. told-text x f h (subst (Told (x .answer .call)) e t) }

@@ -1,0 +1,47 @@
+-- Any two results that a contract of `files` allows are the same: a law for each form that is not already in the Same.antt of `text`
+-- (`same`: `read_at`, `found_at`, `take_at`, `left`, `count_records`; `put-same`: the writers).
+-- Assumes nothing.
+use mathlib.Core.Path.{_≡_, refl, sym, ap, _∙_}
+use mathlib.Core.List.{List}
+use Prim.Native.Nat.{ℕ}
+use denote.Ref.{RefT, now}
+use Rattle.text.proofs.Same.{same}
+use Rattle.files.specs.Bodies.{readAt}
+use Rattle.files.specs.Fit.{answers, leaves}
+use Rattle.files.specs.Places.{placeAfter}
+use Rattle.files.specs.declared.Read.{Read}
+use Rattle.files.specs.declared.Reader.{Reader}
+
+-- What `rev_listing` and `rev_dump` say, t being the listing or the dump: the number given back, and the bytes that the buffer then holds.
+abbrev pub Fitted : List ℕ → List ℕ → List ℕ → ℕ → List ℕ → Type 0
+Fitted s t old r new = (r ≡ answers s t old) × (new ≡ leaves s t old)
+
+-- For one file and one buffer there is one number, and one content of the buffer after it.
+pub fitted-same : (s t old : List ℕ) {r r′ : ℕ} {new new′ : List ℕ} →
+    Fitted s t old r new → Fitted s t old r′ new′ → (r ≡ r′) × (new ≡ new′)
+fitted-same s t old p q = (same (p .0) (q .0), same (p .1) (q .1))
+
+-- What `open` says: a reader over these bytes, at the first.
+abbrev pub Opened : RefT (List ℕ) → Reader → Type 0
+Opened src r = (r .src ≡ src) × (r .at ≡ 0)
+
+reader-is : {r r′ : Reader} → r .src ≡ r′ .src → r .at ≡ r′ .at → r ≡ r′
+reader-is {r} {r′} e f =
+    ap (λ (src : RefT (List ℕ)). record { src = src; at = r .at }) e ∙ ap (λ (at : ℕ). record { src = r′ .src; at = at }) f
+
+-- Over one slice there is one reader at its first byte.
+pub opened-same : (src : RefT (List ℕ)) {r r′ : Reader} → Opened src r → Opened src r′ → r ≡ r′
+opened-same src p q = reader-is (same (p .0) (q .0)) (same (p .1) (q .1))
+
+-- What `next` says of a reader that is `before` and then `after`: what it found where it stood, and where it then stands, over the same
+-- bytes.
+abbrev pub Moved : Reader → Read → Reader → Type 0
+Moved before f after =
+    (f ≡ readAt (now (before .src)) (before .at))
+    × (after .src ≡ before .src)
+    × (after .at ≡ placeAfter (readAt (now (before .src)) (before .at)) (before .at))
+
+-- From one reader there is one thing found, and one reader after it.
+pub moved-same : (before : Reader) {f f′ : Read} {after after′ : Reader} →
+    Moved before f after → Moved before f′ after′ → (f ≡ f′) × (after ≡ after′)
+moved-same before p q = (same (p .0) (q .0), reader-is (same (p .1) (q .1)) (same (p .2) (q .2)))
