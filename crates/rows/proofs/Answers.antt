@@ -1,13 +1,12 @@
--- Every answer is a refusal or a row applied. What holds of the refusals and of the row's own answer holds of the step.
+-- What holds of the refusals and of the row's own answer holds of the step.
 -- Assumes nothing.
 use mathlib.Core.Path.{_≡_, refl, _∙_, ap}
 use mathlib.Core.Bool.{Bool, true, false}
-use Rattle.meters.specs.Meters.{changeOf}
 use Rattle.meters.specs.declared.Metered.{Metered}
 use Rattle.meters.specs.declared.Metered.the-variants.{Done, NoPayer, TooMuch}
 use Rattle.meters.specs.declared.Meters.{Meters}
 use Rattle.rows.specs.Find.{rowForOf}
-use Rattle.rows.specs.Perform.{refusedOf, followsOf, settledOf, performIf, performOf, appliesOf}
+use Rattle.rows.specs.Perform.{refusedOf, followsOf, settledOf}
 use Rattle.rows.specs.Read.{readOf, cueOf, termsOf}
 use Rattle.rows.specs.Rows.{planOf}
 use Rattle.rows.specs.Step.{takesOf, ifInRange, ifCall, stepOf}
@@ -41,20 +40,3 @@ row-decides c e v k = ap (λ (b : Bool). ifCall b c e) v ∙ ap (λ (b : Bool). 
 -- the plan of the row that an event finds
 abbrev pub planFor : Call → Event → Plan
 planFor c e = planOf (rowForOf (c .side .role) (c .stand .phase) (c .stand .rev) (cueOf (readOf e))) (termsOf (c .side .flags) (c .stand) (readOf e))
-
-module _ (P : Outcome → Type 0) (c : Call) (r : Reading) where
-  -- a plan gives its own refusal, or its row is applied to the meters that follow
-  pub planned : (b : Bool) (p : Plan) → ((n : Meters) → changeOf (p .change) (c .meters) (r .seconds) ≡ Done n → P (followsOf c p r n)) →
-      ((n : _) → P (refusedOf n c)) → P (performIf b c p r)
-  planned true p h i = settled P (changeOf (p .change) (c .meters) (r .seconds)) c p r h (i 10) (i 2)
-  planned false p h i = i (p .number)
-
-  pub performed : (p : Plan) → ((n : Meters) → changeOf (p .change) (c .meters) (r .seconds) ≡ Done n → P (followsOf c p r n)) →
-      ((n : _) → P (refusedOf n c)) → P (performOf c p r)
-  performed p = planned (appliesOf (p .number)) p
-
--- a step is a refusal, or its row is applied to the meters that follow
-pub stepped : (P : Outcome → Type 0) (c : Call) (e : Event) →
-    ((n : Meters) → changeOf (planFor c e .change) (c .meters) (readOf e .seconds) ≡ Done n → P (followsOf c (planFor c e) (readOf e) n)) →
-    ((n : _) → P (refusedOf n c)) → P (stepOf c e)
-stepped P c e h i = guard-9 P (validOf c) c e (guard-3 P (eventOk e) c e (performed P c (readOf e) (planFor c e) h i) (i 3)) (i 9)

@@ -9,5 +9,6 @@ pub mod Progress
 pub mod Refusals
 pub mod Reversal
 pub mod Stays
+pub mod Theorems
 pub mod Truth
 pub mod Whole

@@ -7,10 +7,10 @@ use Rattle.rows.specs.Step.{stepOf}
 use Rattle.rows.specs.declared.Call.{Call}
 use Rattle.rows.specs.declared.Event.{Event}
 use Rattle.rows.specs.declared.Outcome.{Outcome}
-use Rattle.rows.proofs.Answers.{stepped}
+use Rattle.rows.proofs.Found.{stepped}
 
 abbrev Keeps : Call → Outcome → Type 0
 Keeps c o = (o .number ≡ 0 → ⊥) → o ≡ refusedOf (o .number) c
 
 pub refusal-changes-nothing : (c : Call) (e : Event) → (stepOf c e .number ≡ 0 → ⊥) → stepOf c e ≡ refusedOf (stepOf c e .number) c
-refusal-changes-nothing c e = stepped (Keeps c) c e (λ n h k. absurd (k refl)) (λ n k. refl)
+refusal-changes-nothing c e = stepped (Keeps c) c e (λ v k. refl) (λ n v p q k. refl) (λ n d k. absurd (k refl))

@@ -1,0 +1,157 @@
+-- THE THEOREMS about the rows, each with its sentence, to be read alone. What they speak of is defined in specs/: Step.antt (`stepOf`,
+-- the answer to an event), Valid.antt (`validOf`, what is a call; `eventOk`, fields in range), History.antt (`run`, `history`: any list
+-- of events, refused ones among them), Bill.antt (demand 3) and Promises.antt (the rest). The files cited prove them.
+-- docs/STATEMENTS.md names a wrong program that each rules out.
+-- Assumes nothing.
+use mathlib.Core.Path.{_≡_}
+use mathlib.Core.Bool.{Bool, true, false, not}
+use mathlib.Core.List.{List, _++_}
+use Prim.Native.Nat.{ℕ, _+_, _≤_}
+use lib.Dec.{eqb}
+use Rattle.meters.specs.Meters.{limit, totalOf}
+use Rattle.meters.specs.declared.Payer.the-variants.{Nobody}
+use Rattle.rows.specs.Bill.{isAnswered, answered, Case, plain, marks, took, reversal, payer, bill, line}
+use Rattle.rows.specs.History.{run, history, opening}
+use Rattle.rows.specs.Perform.{refusedOf}
+use Rattle.rows.specs.Promises.{noneIs, placeIn, isOpening, openingThere, secondsThere, noDuration}
+use Rattle.rows.specs.Promises.{reversals, Extends, Redialled, AllRedialled, Renumbered, SameAnswer, numbers, takesEffect, InEffect}
+use Rattle.rows.specs.Step.{unopenedCall, stepOf}
+use Rattle.rows.specs.Valid.{validOf, eventOk}
+use Rattle.rows.specs.declared.Call.{Call}
+use Rattle.rows.specs.declared.Event.{Event}
+use Rattle.rows.specs.declared.Event.the-variants.{Time}
+use Rattle.rows.specs.declared.Number.{Number}
+use Rattle.rows.specs.declared.Phase.the-variants.{Answered, Cleared}
+use Rattle.rows.proofs.Destination
+use Rattle.rows.proofs.Digits
+use Rattle.rows.proofs.Opened
+use Rattle.rows.proofs.Opened.{Told}
+use Rattle.rows.proofs.Phases
+use Rattle.rows.proofs.Phases.{Answering}
+use Rattle.rows.proofs.Progress
+use Rattle.rows.proofs.Refusals
+use Rattle.rows.proofs.Reversal
+use Rattle.rows.proofs.Stays
+use Rattle.rows.proofs.Whole
+use Rattle.rows.proofs.Whole.{Shows}
+
+-- ---- Demand 1: every event has an answer
+
+-- A refusal changes nothing: any answer but 0 is the refusal of its number, with no action and the call as it stood.
+pub refusal-changes-nothing : (c : Call) (e : Event) → (stepOf c e .number ≡ 0 → ⊥) → stepOf c e ≡ refusedOf (stepOf c e .number) c
+refusal-changes-nothing = Refusals.refusal-changes-nothing
+
+-- A call stays a call, whatever the event.
+pub call-stays : (c : Call) (e : Event) → validOf c ≡ true → validOf (stepOf c e .call) ≡ true
+call-stays = Stays.call-stays
+
+-- 9 is given for what is no call, and for nothing else ..
+pub nine-exactly : (c : Call) (e : Event) → eqb (stepOf c e .number) 9 ≡ not (validOf c)
+nine-exactly = Stays.nine-exactly
+
+-- .. so no history from before the opening meets it.
+pub never-nine : (es : List Event) → noneIs 9 (history unopenedCall es) ≡ true
+never-nine = Stays.never-nine-from-unopened
+
+-- ---- Phases go forward
+
+-- ANSWERED is entered by an accepted answer to a call in SETUP (`answersAt` says by which events, for each role), and by nothing else.
+pub answered-entered : (c : Call) (e : Event) → isAnswered (c .stand .phase) ≡ false → isAnswered (stepOf c e .call .stand .phase) ≡ true →
+    Answering c e (stepOf c e)
+answered-entered = Phases.answered-entered
+
+-- ANSWERED is left to CLEARED alone.
+pub answered-left : (c : Call) (e : Event) → isAnswered (c .stand .phase) ≡ true → isAnswered (stepOf c e .call .stand .phase) ≡ false →
+    stepOf c e .call .stand .phase ≡ Cleared
+answered-left = Phases.answered-left
+
+-- No event but an opening may leave CLEARED.
+pub cleared-stays : (c : Call) (e : Event) → isOpening e ≡ false → c .stand .phase ≡ Cleared → stepOf c e .call .stand .phase ≡ Cleared
+cleared-stays = Phases.cleared-stays
+
+-- NONE, NULL, SETUP, ANSWERED, CLEARED: no event but an opening leads back.
+pub never-back : (c : Call) (e : Event) → isOpening e ≡ false → placeIn (c .stand .phase) ≤ placeIn (stepOf c e .call .stand .phase)
+never-back = Phases.never-falls
+
+-- ---- Progress
+
+-- In ANSWERED, where somebody pays, a time in range that keeps the sum within the limit is accepted.
+pub time-accepted : (c : Call) (s : ℕ) → validOf c ≡ true → c .stand .phase ≡ Answered → (c .meters .payer ≡ Nobody → ⊥) → s ≤ 86400 →
+    totalOf (c .meters) + s ≤ limit → stepOf c (Time s) .number ≡ 0
+time-accepted = Progress.time-accepted
+
+-- Each row that leads to ACTIVE does so wherever its needed parts are there and no limit is passed (`takesEffect`: the table of them).
+pub reversal-takes-effect : (c : Call) (e : Event) → validOf c ≡ true → eventOk e ≡ true → takesEffect c e ≡ true → InEffect (stepOf c e)
+reversal-takes-effect = Progress.reversal-takes-effect
+
+-- ---- Demand 3: who pays each answered second of an originating call
+
+-- From an opening, after any events: each meter is what its payer owes on the bill of the history, the bill has one payment for each
+-- accepted time event after answer and before clearing, and the meters add up to the answered seconds.
+pub billed : (f : ℕ) (own : Number) → opening f own .number ≡ 0 → (es : List Event) →
+    Shows (run (opening f own .call) es) f (history (opening f own .call) es)
+billed = Whole.billed
+
+-- The same from before the opening.
+pub line-billed : (es : List Event) → Told (run unopenedCall es) (line (history unopenedCall es))
+line-billed = Opened.line-billed
+
+-- Who pays now: in ANSWERED the payer who is charged is the one that the history names for the seconds to come.
+pub pays-now : (f : ℕ) (own : Number) → opening f own .number ≡ 0 → (es : List Event) →
+    run (opening f own .call) es .stand .phase ≡ Answered →
+    run (opening f own .call) es .meters .payer ≡ payer (reversal (marks f plain (history (opening f own .call) es))) true
+pays-now = Reversal.pays-now
+
+-- Somebody pays: no such history reaches ANSWERED with nobody as payer, so 10 is for calls that a host hands in.
+pub somebody-pays : (f : ℕ) (own : Number) → opening f own .number ≡ 0 → (es : List Event) →
+    run (opening f own .call) es .stand .phase ≡ Answered → run (opening f own .call) es .meters .payer ≡ Nobody → ⊥
+somebody-pays = Whole.somebody-pays
+
+-- A reversal takes effect once at most.
+pub one-reversal : (f : ℕ) (own : Number) → opening f own .number ≡ 0 → (es : List Event) →
+    reversals (marks f plain (history (opening f own .call) es)) ≤ 1
+one-reversal = Reversal.one-reversal
+
+-- A bill once made stays: after a reversal the bill of a longer history has the payments that were made, and then its own ..
+pub reversed-bill : (f : ℕ) (own : Number) (es more : List Event) (k : Case) (t : Bool) →
+    reversal (marks f plain (history (opening f own .call) es)) ≡ took k t →
+    Extends (bill f (history (opening f own .call) es)) (bill f (history (opening f own .call) (es ++ more)))
+reversed-bill = Reversal.reversed-bill
+
+-- .. and after the clearing it is the one that was made.
+pub cleared-bill : (f : ℕ) (own : Number) → opening f own .number ≡ 0 → (es more : List Event) →
+    run (opening f own .call) es .stand .phase ≡ Cleared →
+    bill f (history (opening f own .call) (es ++ more)) ≡ bill f (history (opening f own .call) es)
+cleared-bill = Reversal.cleared-bill
+
+-- ---- The destination's seconds
+
+-- From its opening, after any events: called and far together are the answered seconds, or, from the last Duration used on, that Duration
+-- and the answered seconds since, as the history alone says.
+pub destination-seconds : (f : ℕ) (own : Number) → openingThere f own .number ≡ 0 → (es : List Event) →
+    run (openingThere f own .call) es .meters .called + run (openingThere f own .call) es .meters .far
+    ≡ secondsThere f (history (openingThere f own .call) es)
+destination-seconds = Destination.destination-seconds
+
+-- As long as no Duration was used they add up to the answered seconds.
+pub destination-answered : (f : ℕ) (own : Number) → openingThere f own .number ≡ 0 → (es : List Event) →
+    noDuration f (history (openingThere f own .call) es) ≡ true →
+    run (openingThere f own .call) es .meters .called + run (openingThere f own .call) es .meters .far
+    ≡ answered (history (openingThere f own .call) es)
+destination-answered = Destination.destination-answered
+
+-- ---- Digits decide nothing
+
+-- Other telephone numbers, in range, in the call and in the event: the same number given back, the same actions, and the same call, its
+-- state and its meters, but for digits ..
+pub digits-decide-nothing : {c d : Call} {e e′ : Event} → Renumbered c d → Redialled e e′ → SameAnswer (stepOf c e) (stepOf d e′)
+digits-decide-nothing y z = Digits.step-alike y z
+
+-- .. after any events, too ..
+pub digits-in-a-history : {c d : Call} {es es′ : List Event} → Renumbered c d → AllRedialled es es′ → Renumbered (run c es) (run d es′)
+digits-in-a-history y z = Digits.run-alike y z
+
+-- .. with the same numbers given back on the way.
+pub digits-give-no-number : {c d : Call} {es es′ : List Event} → Renumbered c d → AllRedialled es es′ →
+    numbers (history c es) ≡ numbers (history d es′)
+digits-give-no-number y z = Digits.numbers-alike y z
