@@ -4,6 +4,7 @@ pub mod Destination
 pub mod Digits
 pub mod Found
 pub mod Opened
+pub mod Payers
 pub mod Phases
 pub mod Progress
 pub mod Refusals

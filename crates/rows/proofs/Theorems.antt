@@ -3,7 +3,7 @@
 -- of events, refused ones among them), Bill.antt (demand 3) and Promises.antt (the rest). The files cited prove them.
 -- docs/STATEMENTS.md names a wrong program that each rules out.
 -- Assumes nothing.
-use mathlib.Core.Path.{_≡_}
+use mathlib.Core.Path.{_≡_, refl}
 use mathlib.Core.Bool.{Bool, true, false, not}
 use mathlib.Core.List.{List, _++_}
 use Prim.Native.Nat.{ℕ, _+_, _≤_}
@@ -13,7 +13,7 @@ use Rattle.meters.specs.declared.Payer.the-variants.{Nobody}
 use Rattle.rows.specs.Bill.{isAnswered, answered, Case, plain, marks, took, reversal, payer, bill, line}
 use Rattle.rows.specs.History.{run, history, opening}
 use Rattle.rows.specs.Perform.{refusedOf}
-use Rattle.rows.specs.Promises.{noneIs, placeIn, isOpening, openingThere, secondsThere, noDuration}
+use Rattle.rows.specs.Promises.{noneIs, unpaid, placeIn, isOpening, openingThere, secondsThere, noDuration}
 use Rattle.rows.specs.Promises.{reversals, Extends, Redialled, AllRedialled, Renumbered, SameAnswer, numbers, takesEffect, InEffect}
 use Rattle.rows.specs.Step.{unopenedCall, stepOf}
 use Rattle.rows.specs.Valid.{validOf, eventOk}
@@ -26,6 +26,7 @@ use Rattle.rows.proofs.Destination
 use Rattle.rows.proofs.Digits
 use Rattle.rows.proofs.Opened
 use Rattle.rows.proofs.Opened.{Told}
+use Rattle.rows.proofs.Payers
 use Rattle.rows.proofs.Phases
 use Rattle.rows.proofs.Phases.{Answering}
 use Rattle.rows.proofs.Progress
@@ -52,6 +53,14 @@ nine-exactly = Stays.nine-exactly
 -- .. so no history from before the opening meets it.
 pub never-nine : (es : List Event) → noneIs 9 (history unopenedCall es) ≡ true
 never-nine = Stays.never-nine-from-unopened
+
+-- No step leads to ANSWERED with nobody as payer, unless the call stood so ..
+pub paid-stays : (c : Call) (e : Event) → unpaid c ≡ false → unpaid (stepOf c e .call) ≡ false
+paid-stays = Payers.paid-stays
+
+-- .. so no history from before the opening meets 10 either, at either exchange.
+pub never-ten : (es : List Event) → noneIs 10 (history unopenedCall es) ≡ true
+never-ten es = Payers.never-ten unopenedCall es refl
 
 -- ---- Phases go forward
 

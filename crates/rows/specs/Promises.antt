@@ -9,7 +9,8 @@ use mathlib.Core.Path.{_≡_}
 use lib.Dec.{eqb, leb}
 use Rattle.meters.specs.Meters.{limit}
 use Rattle.meters.specs.declared.Meters.{Meters}
-use Rattle.rows.specs.Bill.{bitAt, lowestBit, resultTo, invokeOf, Case, Mark, plain, second, reversed, Paid, Step, pick, accepted}
+use Rattle.meters.specs.declared.Payer.the-variants.{Nobody}
+use Rattle.rows.specs.Bill.{same, bitAt, lowestBit, resultTo, invokeOf, Case, Mark, plain, second, reversed, Paid, Step, pick, accepted}
 use Rattle.rows.specs.Bill.{isAnswered, isRev, answered}
 use Rattle.rows.specs.Step.{unopenedCall, stepOf}
 use Rattle.rows.specs.Valid.{numberThere}
@@ -37,6 +38,12 @@ use Rattle.rows.specs.declared.Stand.{Stand}
 abbrev pub noneIs : ℕ → List Step → Bool
 noneIs n [] = true
 noneIs n (s ∷ h) = not (eqb (s .number) n) && noneIs n h
+
+-- ---- Somebody pays: proofs/Payers.antt
+
+-- ANSWERED, and nobody pays: what 10 is given for
+abbrev pub unpaid : Call → Bool
+unpaid c = isAnswered (c .stand .phase) && same Nobody (c .meters .payer)
 
 -- ---- Phases go forward: proofs/Phases.antt
 
