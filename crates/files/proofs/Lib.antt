@@ -7,6 +7,7 @@ pub mod Records
 pub mod Same
 pub mod Shown
 pub mod Texts
+pub mod Theorems
 pub mod Turns
 pub mod Unread
 pub mod Worked
