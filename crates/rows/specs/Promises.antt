@@ -1,12 +1,14 @@
 -- WHAT IS PROMISED of every call and every history, beside the answer to each event (Step.antt) and the bill (Bill.antt): the words
--- that the theorems use. They read events and steps by tests of their own, as Bill.antt does, and take nothing from the rows.
+-- that the theorems use. They read events and steps by tests of their own, as Bill.antt does, and take none from the rows.
 -- Assumes nothing.
 use Prim.Native.Nat.{ℕ, _+_}
 use mathlib.Core.Bool.{Bool, true, false, _&&_, _||_, not}
 use mathlib.Core.List.{List, [], _∷_}
+use mathlib.Core.Path.{_≡_}
 use lib.Dec.{eqb}
 use Rattle.rows.specs.Bill.{pick, Step, accepted, isAnswered, isRev, answered, lowestBit, bitAt, resultTo}
 use Rattle.rows.specs.Step.{unopenedCall, stepOf}
+use Rattle.rows.specs.declared.Call.{Call}
 use Rattle.rows.specs.declared.Event.{Event}
 use Rattle.rows.specs.declared.Event.the-variants.{Opening, Ask, Received, FromAccess, Expiry, Time}
 use Rattle.rows.specs.declared.Number.{Number}
@@ -81,6 +83,15 @@ answersAt Destination Active e = false
 answersAt Destination WaitSetupConf e = isWord 1 e
 answersAt Destination WaitActiveConf e = false
 answersAt Destination WaitCalled e = false
+
+-- what leads a call (c) to ANSWERED: the event (e) and the answer to it (o)
+pub record Answering (c : Call) (e : Event) (o : Outcome) : Type 0 where
+  -- the step was accepted
+  pub number : o .number ≡ 0
+  -- the call was in SETUP
+  pub phase : c .stand .phase ≡ Setup
+  -- and the event was the one that answers it there
+  pub event : answersAt (c .side .role) (c .stand .rev) e ≡ true
 
 -- ---- The destination's seconds: proofs/Destination.antt
 --
