@@ -9,7 +9,7 @@ use borrow.Author.Tests.{leb-true}
 use Rattle.rows.specs.Bill.{isAnswered}
 use Rattle.rows.specs.Find.{when, destinationSetupOf, rowForOf}
 use Rattle.rows.specs.Perform.{standOf}
-use Rattle.rows.specs.Promises.{placeIn, isOpening, isMessage, isWord, answersAt}
+use Rattle.rows.specs.Promises.{placeIn, isOpening, isMessage, isWord, answersAt, Answering}
 use Rattle.rows.specs.Read.{kindBy, readOf, cueOf, termsOf}
 use Rattle.rows.specs.Rows
 use Rattle.rows.specs.Rows.{planOf}
@@ -250,15 +250,6 @@ in-setup Null h = cc
 in-setup Setup h = refl
 in-setup Answered h = cc
 in-setup Cleared h = cc
-
--- what leads a call to ANSWERED
-pub record Answering (c : Call) (e : Event) (o : Outcome) : Type 0 where
-  -- the step was accepted
-  pub number : o .number ≡ 0
-  -- the call was in SETUP
-  pub phase : c .stand .phase ≡ Setup
-  -- and the event was the one that answers it there
-  pub event : answersAt (c .side .role) (c .stand .rev) e ≡ true
 
 -- A step that leads to ANSWERED from another phase is an accepted answer to a call in SETUP.
 pub answered-entered : (c : Call) (e : Event) → isAnswered (c .stand .phase) ≡ false → isAnswered (stepOf c e .call .stand .phase) ≡ true →

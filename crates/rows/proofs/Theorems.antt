@@ -13,7 +13,7 @@ use Rattle.meters.specs.declared.Payer.the-variants.{Nobody}
 use Rattle.rows.specs.Bill.{isAnswered, answered, Case, plain, marks, took, reversal, payer, bill, line}
 use Rattle.rows.specs.History.{run, history, opening}
 use Rattle.rows.specs.Perform.{refusedOf}
-use Rattle.rows.specs.Promises.{noneIs, unpaid, placeIn, isOpening, openingThere, secondsThere, noDuration}
+use Rattle.rows.specs.Promises.{noneIs, unpaid, Answering, placeIn, isOpening, openingThere, secondsThere, noDuration}
 use Rattle.rows.specs.Promises.{reversals, Extends, Redialled, AllRedialled, Renumbered, SameAnswer, numbers, takesEffect, InEffect}
 use Rattle.rows.specs.Step.{unopenedCall, stepOf}
 use Rattle.rows.specs.Valid.{validOf, eventOk}
@@ -28,7 +28,6 @@ use Rattle.rows.proofs.Opened
 use Rattle.rows.proofs.Opened.{Told}
 use Rattle.rows.proofs.Payers
 use Rattle.rows.proofs.Phases
-use Rattle.rows.proofs.Phases.{Answering}
 use Rattle.rows.proofs.Progress
 use Rattle.rows.proofs.Refusals
 use Rattle.rows.proofs.Reversal

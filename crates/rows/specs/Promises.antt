@@ -102,6 +102,15 @@ answersAt Destination WaitSetupConf e = isWord 1 e
 answersAt Destination WaitActiveConf e = false
 answersAt Destination WaitCalled e = false
 
+-- what leads a call (c) to ANSWERED: the event (e) and the answer to it (o)
+pub record Answering (c : Call) (e : Event) (o : Outcome) : Type 0 where
+  -- the step was accepted
+  pub number : o .number ≡ 0
+  -- the call was in SETUP
+  pub phase : c .stand .phase ≡ Setup
+  -- and the event was the one that answers it there
+  pub event : answersAt (c .side .role) (c .stand .rev) e ≡ true
+
 -- ---- The destination's seconds: proofs/Destination.antt
 --
 -- 01: "Destination meters: called (charged here) and far (charged at origin); caller is 0. In ANSWERED one of the two runs ..
