@@ -25,7 +25,7 @@ function labels(text,   n, i, word, letter, last) {
     return count
 }
 
-# Whether each clause that the row of a label has in docs/ROWS.md stands in a comment. n in a clause is each of 1 to 5.
+# Whether each clause that the row of a label has in docs/ROWS.md stands in the comments beside it. n in a clause is each of 1 to 5.
 function clauses(label, comment, where,   n, i, word) {
     n = split(sentence[label], word, /[^0-9.n]+/)
     for (i = 1; i <= n; i++)
@@ -73,32 +73,47 @@ file == 1 && /^- 3\.5\.2\./ {
 # specs/Find.antt: the place of a table, then its lines
 file == 2 && /^-- (originating|destination|both roles|before)/ { place = substr($0, 4); next }
 file == 2 && /^abbrev pub .* : Kind / { place_of[$3] = place; next }
-file == 2 && /^[a-zA-Z]+Of (Opens|Asks|Iam|Answer|Rel|Fac|Tells|Expires|Passes) e = / {
-    line = $1 " " $2
-    n = split(code_of($0), part, /[ ()]+/)
+file == 2 && /^[a-zA-Z]+Of (Opens|Asks|Iam|Answer|Rel|Fac|Tells|Expires|Passes) e =/ {
+    name = $1
+    kind = $2
+    last = ""
+    text = $0
+    sub(/^[^=]*=/, "", text)
+    finds_at(text)
+    next
+}
+file == 2 && /^ / { finds_at($0); next }
+
+# A line of a table: its words that are rows, and for each the labels of its comment. A word with two alternatives may stand twice.
+function finds_at(text,   n, i, g, part, word, words, group, groups, line, key) {
+    line = "specs/Find.antt, " name " " kind
+    n = split(code_of(text), part, /[ ()]+/)
     words = 0
-    for (i = 5; i <= n; i++) # the tests begin with a dot or are e
+    for (i = 1; i <= n; i++)
         if (part[i] ~ /^[A-Z]/ && part[i] != "NoRow" && !(words && word[words] == part[i])) word[++words] = part[i]
-    groups = split(comment_of($0), group, /;/)
-    if (groups != words) wrong("specs/Find.antt, " line ": " words " rows and " groups " comments")
+    groups = words > 1 ? split(comment_of(text), group, /;/) : 1
+    if (words <= 1) group[1] = comment_of(text)
+    if (words == 0 && labels(comment_of(text))) wrong(line ": a label beside no row")
+    if (words > 1 && groups != words) wrong(line ": " words " rows and " groups " comments")
     for (g = 1; g <= groups && g <= words; g++) {
         n = labels(group[g])
-        if (n == 0) wrong("specs/Find.antt, " line ": no label for " word[g])
+        if (n == 0) wrong(line ": no label for " word[g])
         for (i = 1; i <= n; i++) {
             key = found[i] SUBSEP word[g]
-            if ((key SUBSEP $1) in finds) wrong("specs/Find.antt has " found[i] " twice in " $1)
-            finds[key, $1] = 1
-            found_at[found[i]] = found_at[found[i]] " " $1
-            if (!(key in has_word)) wrong("specs/Find.antt, " line ": " found[i] " is " word[g] ", not so in docs/ROWS.md")
-            if (table[found[i]] ~ /Of$/ && table[found[i]] != $1)
-                wrong("specs/Find.antt has " found[i] " in " $1 ", docs/ROWS.md in " table[found[i]])
-            if (kind_of(event[found[i]]) != $2) wrong("specs/Find.antt, " line ": " found[i] " is another event in docs/ROWS.md")
-            if (!stands(found[i], place_of[$1])) wrong("specs/Find.antt, " line ": " found[i] " stands elsewhere in docs/ROWS.md")
-            clauses(found[i], comment_of($0), "specs/Find.antt, " line)
+            if ((key SUBSEP name) in finds && last != word[g]) wrong("specs/Find.antt has " found[i] " twice in " name)
+            for (number = 1; number < i; number++) if (found[number] == found[i]) wrong(line " has " found[i] " twice")
+            finds[key, name] = 1
+            found_at[found[i]] = found_at[found[i]] " " name
+            if (!(key in has_word)) wrong(line ": " found[i] " is " word[g] ", not so in docs/ROWS.md")
+            if (table[found[i]] ~ /Of$/ && table[found[i]] != name)
+                wrong("specs/Find.antt has " found[i] " in " name ", docs/ROWS.md in " table[found[i]])
+            if (kind_of(event[found[i]]) != kind) wrong(line ": " found[i] " is another event in docs/ROWS.md")
+            if (!stands(found[i], place_of[name])) wrong(line ": " found[i] " stands elsewhere in docs/ROWS.md")
+            beside[found[i]] = beside[found[i]] comment_of(text)
             in_find[key] = 1
         }
+        last = word[g]
     }
-    next
 }
 
 # The kind of event that a row of docs/ROWS.md names after its place.
@@ -144,18 +159,23 @@ function stands(label, place,   at, part, n, role, phase, rev, list) {
 # specs/Rows.antt: labels before a definition are those of its first line
 file == 3 && /^--/ { n = labels($0); for (i = 1; i <= n; i++) above = above " " found[i]; text_above = text_above $0; next }
 file == 3 && /^$/ { above = text_above = ""; next }
-file == 3 && /^[a-z][a-zA-Z]* .*= / && !/^row / {
-    left = code_of($0); sub(/ = .*/, "", left)
-    right = code_of($0); sub(/^[^=]*= /, "", right)
+file == 3 && /^[a-z][a-zA-Z]* .*=( |$)/ && !/^(abbrev|use) / {
+    left = code_of($0); sub(/ =( .*)?$/, "", left)
+    right = code_of($0); sub(/^[^=]*= */, "", right)
     lines++
     left_of[lines] = left " "
     right_of[lines] = right
     text_of[lines] = text_above comment_of($0)
-    if ($1 == "planOf") plan[$2] = right
     n = labels(above " " comment_of($0))
     named[lines] = " "
     for (i = 1; i <= n; i++) named[lines] = named[lines] found[i] " "
     above = text_above = ""
+    next
+}
+file == 3 && /^ / {
+    text = code_of($0)
+    sub(/^ +/, "", text)
+    right_of[lines] = right_of[lines] (right_of[lines] == "" ? "" : " ") text
     next
 }
 
@@ -205,12 +225,15 @@ function check_plan(label,   n, i, j, defs, part, words, hits, at, key, first) {
             if (first[1] != label) continue
             if (part[1] == "planOf") {
                 if (part[2] != first[2]) wrong("docs/ROWS.md: " label " is " first[2] " and " defs[i])
-            } else {
-                split(plan[first[2]], words_of_plan, / /)
-                if (words_of_plan[1] != part[1]) wrong("specs/Rows.antt: planOf " first[2] " is not " part[1] ", as " label " has it")
-                if (words_of_plan[2] ~ /^(true|false)$/ && part[2] ~ /^(true|false)$/ && words_of_plan[2] != part[2])
-                    wrong("specs/Rows.antt: planOf " first[2] " is not " defs[i] ", as " label " has it")
+                continue
             }
+            text = plan[first[2]]
+            gsub(/\([^()]*\)/, "_", text)
+            words = split(text, planned, / /)
+            same = planned[1] == part[1]
+            for (j = 2; j <= words; j++) # what is said of an argument on both sides
+                if (planned[j] ~ /^(true|false|[A-Z].*)$/ && part[j] ~ /^(true|false|[A-Z].*)$/ && planned[j] != part[j]) same = 0
+            if (!same) wrong("specs/Rows.antt: planOf " first[2] " is not " defs[i] ", as " label " has it")
         }
     }
 }
@@ -222,6 +245,11 @@ END {
     for (label in wanted) if (!(label in sentence)) wrong("docs/ROWS.md has no row " label)
     for (label in sentence) if (!(label in wanted)) wrong("docs/ROWS.md has a row " label ", which is none of the 101")
 
+    for (at = 1; at <= lines; at++) {
+        split(left_of[at], part, / /)
+        if (part[1] == "planOf") plan[part[2]] = right_of[at]
+    }
+
     # each row of the page is found, and where it says
     for (i = 1; i <= pages; i++) {
         split(page_words[i], part, SUBSEP)
@@ -231,6 +259,7 @@ END {
         if (table[part[1]] ~ /Of$/ && !((page_words[i] SUBSEP table[part[1]]) in finds))
             wrong("specs/Find.antt does not find " part[1] " in " table[part[1]])
     }
+    for (i = 1; i <= rows; i++) clauses(order[i], beside[order[i]], "specs/Find.antt")
     # the rows of both roles: in each table where they may stand
     for (name in place_of)
         for (i = 2; i <= 5; i++)
@@ -249,14 +278,23 @@ END {
             if (!(label in sentence)) { wrong("specs/Rows.antt, " left_of[at] "names " label ", which docs/ROWS.md has not"); continue }
             if (index(substr(named[at], index(named[at], " " label " ") + 1), " " label " ") > 0)
                 wrong("specs/Rows.antt, " left_of[at] "names " label " twice")
-            if (right_of[at] !~ /^refuses/) clauses(label, text_of[at], "specs/Rows.antt, " left_of[at] "line")
-            if ((label SUBSEP at) in of_page) continue
+            if ((label SUBSEP at) in of_page) {
+                if (right_of[at] !~ /^refuses/) clauses(label, text_of[at], "specs/Rows.antt, " left_of[at] "line")
+                continue
+            }
             if (first[1] == "planOf" && ((label SUBSEP first[2]) in has_word)) continue
             # a needed part that is absent: of the same function, and the page says what it needs
             if (right_of[at] ~ /^refuses partAbsent/ && index(definition[label] " ", first[1] " ") == 1 && event[label] ~ /Needs/) continue
             wrong("specs/Rows.antt, " left_of[at] "names " label ", docs/ROWS.md not")
         }
-        if (right_of[at] ~ /^refuses partAbsent/) for (i = 1; i <= n; i++) if (part[i] != "") needs[part[i]] = 1
+        if (right_of[at] ~ /^(refuses partAbsent|needs )/) for (i = 1; i <= n; i++) if (part[i] != "") needs[part[i]] = 1
+        # a line of planOf that names labels names those of its word
+        if (first[1] == "planOf" && named[at] != " ")
+            for (i = 1; i <= pages; i++) {
+                split(page_words[i], part, SUBSEP)
+                if (part[2] == first[2] && index(named[at], " " part[1] " ") == 0)
+                    wrong("specs/Rows.antt, " left_of[at] "does not name " part[1])
+            }
     }
     for (i = 1; i <= rows; i++) {
         label = order[i]
