@@ -8,3 +8,4 @@ pub mod Lines
 pub mod Listing
 pub mod Messages
 pub mod Places
+pub mod Words
