@@ -6,8 +6,9 @@ fn main() {
     // one byte more than a file may have, so that a longer input is noticed
     let mut input = [0u8; 65537];
     let n = io::read_full(STDIN_FILENO, &mut input);
-    // room for every file: at most 16,384 records, and lines of some 20 bytes
-    let mut out = [0u8; 524288];
+    // room for every file: the most text for its bytes has a message of 9 bytes, a line of 93 with an ordinal of five digits, so
+    // 65,536 bytes have at most 65,536 / 9 * 93 = 677,206 of text and the first line
+    let mut out = [0u8; 1048576];
     let k = files::rev_dump(&input[..n], &mut out);
     if k == 8 {
         io::write_all(STDOUT_FILENO, b"REFUSED 8\n");

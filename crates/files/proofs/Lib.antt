@@ -10,4 +10,5 @@ pub mod Texts
 pub mod Theorems
 pub mod Turns
 pub mod Unread
+pub mod Values
 pub mod Worked

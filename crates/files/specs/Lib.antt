@@ -9,3 +9,4 @@ pub mod Listing
 pub mod Messages
 pub mod Places
 pub mod Shown
+pub mod Words

@@ -1,9 +1,9 @@
-// A dump of a file, for a volunteer who wants to see what the board wrote: each record's ordinal, kind and place.
+// A dump of a file, for a volunteer who wants to see what the board wrote: each record's ordinal, its place, and what it says.
 ghost use mathlib.Core.Path.{_≡_};
 ghost use Prim.Native.Nat.{_+_, _≤_, _<_, _^_};
 ghost use lib.ListN.{length};
 ghost use Rattle.text.specs.Text.{Put};
-ghost use Rattle.files.specs.Dump.{stopText, eventText, kindText, placeText, longestPlace, dumpOf};
+ghost use Rattle.files.specs.Dump.{stopText, foundText, placeText, longestPlace, dumpOf};
 ghost use Rattle.files.specs.Fit.{longest, answers, leaves};
 use crate::Read;
 use crate::fit::LONGEST;
@@ -14,7 +14,7 @@ use crate::lent::found_at;
 use crate::lines::put_numbered_line;
 use crate::places::count_records;
 use crate::places::place_after;
-use rows::Event;
+use crate::words::put_event;
 
 fn put_stop(out: &mut [u8], at: usize, number: u8) -> usize
     requires { ⌜ at < 2 ^ 60 ⌝ }
@@ -30,26 +30,11 @@ fn put_stop(out: &mut [u8], at: usize, number: u8) -> usize
     text::put_word(out, at, b" UNKNOWN-KIND")
 }
 
-fn put_event(out: &mut [u8], at: usize, e: Event) -> usize
-    requires { ⌜ at < 2 ^ 60 ⌝ }
-    ensures { λ r. ⌜ Put (now (out .entry)) at (eventText e) (now (out .exit)) r ⌝ }
-    ensures { λ r. ⌜ r ≤ at + 8 ⌝ }
-{
-    match e {
-        Event::Opening(_, _, _) => text::put_word(out, at, b" OPENING"),
-        Event::Ask(_, _) => text::put_word(out, at, b" REQUEST"),
-        Event::Received(_) => text::put_word(out, at, b" MESSAGE"),
-        Event::FromAccess(_, _) => text::put_word(out, at, b" ACCESS"),
-        Event::Expiry => text::put_word(out, at, b" EXPIRY"),
-        Event::Time(_) => text::put_word(out, at, b" TIME"),
-    }
-}
-
-// The kind of a record, or why it cannot be read.
-fn put_kind(out: &mut [u8], at: usize, found: Read) -> usize
-    requires { ⌜ at < 2 ^ 60 ⌝ }
-    ensures { λ r. ⌜ Put (now (out .entry)) at (kindText found) (now (out .exit)) r ⌝ }
-    ensures { λ r. ⌜ r ≤ at + 13 ⌝ }
+// What a record says, or why it cannot be read.
+fn put_found(out: &mut [u8], at: usize, found: Read) -> usize
+    requires { ⌜ at < 2 ^ 57 ⌝ }
+    ensures { λ r. ⌜ Put (now (out .entry)) at (foundText found) (now (out .exit)) r ⌝ }
+    ensures { λ r. ⌜ r ≤ at + 656 ⌝ }
 {
     match found {
         Read::End => at,
@@ -60,13 +45,14 @@ fn put_kind(out: &mut [u8], at: usize, found: Read) -> usize
 
 // A record's line.
 fn put_place(out: &mut [u8], to: usize, ordinal: u32, found: Read, at: u32) -> usize
-    requires { ⌜ to < 2 ^ 58 ⌝ }
+    requires { ⌜ to < 2 ^ 56 ⌝ }
     ensures { λ r. ⌜ Put (now (out .entry)) to (placeText ordinal found at) (now (out .exit)) r ⌝ }
     ensures { λ r. ⌜ r ≤ to + longestPlace ⌝ }
 {
     let mut end = text::put_dec(out, to, ordinal);
-    end = put_kind(out, end, found);
-    put_numbered_line(out, end, b" ", at)
+    end = text::put_numbered(out, end, b" ", at);
+    end = put_found(out, end, found);
+    text::put(out, end, b'\n')
 }
 
 // The whole dump as far as the buffer goes, and its length.

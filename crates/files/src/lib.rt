@@ -13,6 +13,7 @@ mod lines;
 mod listing;
 mod messages;
 mod places;
+mod words;
 
 pub use bodies::read_at;
 pub use dump::rev_dump;

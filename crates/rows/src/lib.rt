@@ -15,6 +15,7 @@ mod valid;
 use meters::Change;
 use meters::Meters;
 pub use numbers::APPLIED;
+pub use valid::in_range;
 
 pub enum Role {
     Originating,
