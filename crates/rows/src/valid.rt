@@ -139,7 +139,7 @@ fn ten_to(count: u8) -> u64
 }
 
 // A number absent (0, 0), or of 1 to 15 digits: below ten to the count either way.
-pub(crate) fn in_range(n: Number) -> bool
+pub fn in_range(n: Number) -> bool
     ensures { λ out. ⌜ out ≡ inRange n ⌝ }
 {
     let top = ten_to(n.count);
