@@ -5,13 +5,17 @@ use mathlib.Core.List.{List, [], _∷_}
 use mathlib.Core.Path.{_≡_, refl}
 use Rattle.meters.specs.declared.Payer.{Payer}
 use Rattle.meters.specs.declared.Payer.the-variants.{Caller, Called, Far}
-use Rattle.rows.specs.Bill.{Paid, bill}
+use Rattle.rows.specs.Bill.{Paid, bill, Step}
 use Rattle.rows.specs.History.{history, opening}
 use Rattle.rows.specs.declared.Component.{Component}
 use Rattle.rows.specs.declared.Component.the-variants.{Absent, Invoke, Result}
 use Rattle.rows.specs.declared.Event.{Event}
 use Rattle.rows.specs.declared.Event.the-variants.{Ask, Received, FromAccess, Expiry, Time}
 use Rattle.rows.specs.declared.Number.{Number}
+use Rattle.rows.specs.declared.Phase.{Phase}
+use Rattle.rows.specs.declared.Phase.the-variants.{Setup, Answered}
+use Rattle.rows.specs.declared.RevState.{RevState}
+use Rattle.rows.specs.declared.RevState.the-variants.{Idle, WaitAnswer, Active}
 
 abbrev room : Number
 room = record { count = 7; value = 5550123 }
@@ -80,3 +84,24 @@ d-plain = refl
 not-allowed : billOf 1 (Ask 0 room ∷ message 5 (Invoke 3) 1 none ∷ answer ∷ Time 20 ∷ message 5 (Invoke 3) 1 none ∷ Time 10 ∷ [])
     ≡ paid 20 Caller ∷ paid 10 Caller ∷ []
 not-allowed = refl
+
+-- ---- Histories that these rows do not write: the bill names the payer from the steps alone
+
+-- an accepted step, with phase and REV state before and after
+abbrev step : Event → Phase → RevState → Phase → RevState → Step
+step e p r q s = record { event = e; number = 0; phase = p; rev = r; phaseAfter = q; revAfter = s }
+
+-- case D that takes effect at its request, without an answer, is no reversal
+at-the-request : bill 8 (step (message 5 (Invoke 3) 32 room) Setup Idle Answered Active ∷ step (Time 20) Answered Active Answered Active ∷ [])
+    ≡ paid 20 Caller ∷ []
+at-the-request = refl
+
+-- nor is one that was given up before the answer
+given-up : bill 8
+    (step (message 5 (Invoke 3) 32 room) Setup Idle Setup WaitAnswer
+    ∷ step Expiry Setup WaitAnswer Setup Idle
+    ∷ step Expiry Setup Idle Setup WaitAnswer
+    ∷ step answer Setup WaitAnswer Answered Active
+    ∷ step (Time 20) Answered Active Answered Active ∷ [])
+    ≡ paid 20 Caller ∷ []
+given-up = refl
