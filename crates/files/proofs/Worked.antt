@@ -13,7 +13,8 @@ use Rattle.files.specs.Bytes.{le2At, le4At, le8At, numberAt}
 use Rattle.files.specs.Frames.{lengthOf, frameOf, frameAt}
 use Rattle.files.specs.Lines.{standText, metersText, lineText, numberedLine, actionsText, recordText}
 use Rattle.files.specs.Listing.{answerOf, restOf, recordsOf, listingOf}
-use Rattle.files.specs.Messages.{operationText, withOperation, textIf, withDigits, partsText, valuesText, carriedText, sentText, releasedText}
+use Rattle.files.specs.Messages.{operationText, withOperation, textIf, withDigits, partsText, valuesText, carriedText, sentText}
+use Rattle.files.specs.Messages.{releasedText}
 use Rattle.files.specs.Places.{placeAfter, placesFrom, placesOf}
 use Rattle.files.specs.declared.Read.{Read}
 

@@ -65,7 +65,11 @@ actionText m Act.SendRel = releasedText m
 actionText m Act.SendFac = sentText (ascii "> FAC") m
 
 unfoldable pub actionsText : Outcome → List ℕ
-actionsText o = actionText (o .note) (o .first) ++ actionText (o .note) (o .second) ++ actionText (o .note) (o .third) ++ actionText (o .note) (o .fourth)
+actionsText o =
+    actionText (o .note) (o .first)
+    ++ actionText (o .note) (o .second)
+    ++ actionText (o .note) (o .third)
+    ++ actionText (o .note) (o .fourth)
 
 -- a record's line and, where a row was applied, its actions
 unfoldable pub recordText : ℕ → Outcome → List ℕ

@@ -40,7 +40,9 @@ pub fn open<'a>(src: &'a [u8]) -> Reader<'a>
 
 // The next record, and the reader moves past it. At the end, and after 5, 6 or 7, it stays and says the same again.
 pub fn next<'s, 'a>(r: &'s mut Reader<'a>) -> Read
-    ensures { λ f. ⌜ (f ≡ readAt (now (now (r .entry) .src)) (now (r .entry) .at)) × (now (r .exit) .src ≡ now (r .entry) .src) × (now (r .exit) .at ≡ placeAfter (readAt (now (now (r .entry) .src)) (now (r .entry) .at)) (now (r .entry) .at)) ⌝ }
+    ensures { λ f. ⌜ (f ≡ readAt (now (now (r .entry) .src)) (now (r .entry) .at))
+        × (now (r .exit) .src ≡ now (r .entry) .src)
+        × (now (r .exit) .at ≡ placeAfter (readAt (now (now (r .entry) .src)) (now (r .entry) .at)) (now (r .entry) .at)) ⌝ }
 {
     let t = take_at(r.src, r.at);
     r.at = t.next;

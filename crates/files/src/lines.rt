@@ -2,7 +2,8 @@
 ghost use Prim.Native.Nat.{_+_, _≤_, _<_, _^_};
 ghost use lib.ListN.{length};
 ghost use Rattle.text.specs.Text.{Put};
-ghost use Rattle.files.specs.Lines.{phaseText, revText, standText, metersText, lineText, numberedLine, actionText, actionsText, recordText, longestRecord};
+ghost use Rattle.files.specs.Lines.{phaseText, revText, standText, metersText, lineText, numberedLine, actionText, actionsText};
+ghost use Rattle.files.specs.Lines.{recordText, longestRecord};
 use crate::messages::put_released;
 use crate::messages::put_sent;
 use meters::Meters;

@@ -49,7 +49,8 @@ fn write(file: &[u8], out: &mut [u8]) -> usize
 // The listing of a file in a buffer of any size: its length; or 8, and the buffer as it was.
 #[no_mangle]
 pub extern "C" fn rev_listing(file: &[u8], out: &mut [u8]) -> usize
-    ensures { λ r. ⌜ (r ≡ answers (now (file .entry)) (listingOf (now (file .entry))) (now (out .entry))) × (now (out .exit) ≡ leaves (now (file .entry)) (listingOf (now (file .entry))) (now (out .entry))) ⌝ }
+    ensures { λ r. ⌜ (r ≡ answers (now (file .entry)) (listingOf (now (file .entry))) (now (out .entry)))
+        × (now (out .exit) ≡ leaves (now (file .entry)) (listingOf (now (file .entry))) (now (out .entry))) ⌝ }
 {
     if LONGEST < file.len() {
         return TOO_LONG;

@@ -2,7 +2,8 @@
 ghost use Prim.Native.Nat.{_+_, _≤_, _<_, _^_};
 ghost use lib.ListN.{length};
 ghost use Rattle.text.specs.Text.{Put, ascii, numbered};
-ghost use Rattle.files.specs.Messages.{operationText, withOperation, componentText, textIf, withDigits, partsText, valuesText, carriedText, sentText, releasedText};
+ghost use Rattle.files.specs.Messages.{operationText, withOperation, componentText, textIf, withDigits, partsText, valuesText};
+ghost use Rattle.files.specs.Messages.{carriedText, sentText, releasedText};
 use rows::Component;
 use rows::Note;
 use rows::Number;

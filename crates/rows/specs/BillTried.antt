@@ -59,7 +59,8 @@ a-not-agreed : billOf 9 (Ask 1 room ∷ message 3 (Result 1) 2 none ∷ Time 60 
 a-not-agreed = refl
 
 -- B asked for by the caller: rejected first, then accepted
-b-by-caller : billOf 9 (Ask 0 room ∷ answer ∷ Time 40 ∷ Ask 2 none ∷ Time 3 ∷ Expiry ∷ Time 2 ∷ Ask 2 none ∷ message 5 (Result 2) 6 none ∷ Time 20 ∷ [])
+b-by-caller : billOf 9
+    (Ask 0 room ∷ answer ∷ Time 40 ∷ Ask 2 none ∷ Time 3 ∷ Expiry ∷ Time 2 ∷ Ask 2 none ∷ message 5 (Result 2) 6 none ∷ Time 20 ∷ [])
     ≡ paid 40 Caller ∷ paid 3 Caller ∷ paid 2 Caller ∷ paid 20 Far ∷ []
 b-by-caller = refl
 
@@ -70,7 +71,8 @@ rest-of-call = refl
 entire-call : billOf 8 (Ask 0 room ∷ answer ∷ Time 40 ∷ message 5 (Invoke 3) 32 room ∷ Time 20 ∷ []) ≡ paid 40 Called ∷ paid 20 Called ∷ []
 entire-call = refl
 
-entire-call-transferred : billOf 9 (Ask 0 room ∷ answer ∷ Time 40 ∷ message 5 (Invoke 3) 1 none ∷ Time 20 ∷ []) ≡ paid 40 Far ∷ paid 20 Far ∷ []
+entire-call-transferred : billOf 9 (Ask 0 room ∷ answer ∷ Time 40 ∷ message 5 (Invoke 3) 1 none ∷ Time 20 ∷ [])
+    ≡ paid 40 Far ∷ paid 20 Far ∷ []
 entire-call-transferred = refl
 
 -- D: asked for before the answer, with transfer, without
@@ -92,7 +94,9 @@ abbrev step : Event → Phase → RevState → Phase → RevState → Step
 step e p r q s = record { event = e; number = 0; phase = p; rev = r; phaseAfter = q; revAfter = s }
 
 -- case D that takes effect at its request, without an answer, is no reversal
-at-the-request : bill 8 (step (message 5 (Invoke 3) 32 room) Setup Idle Answered Active ∷ step (Time 20) Answered Active Answered Active ∷ [])
+at-the-request : bill 8
+    (step (message 5 (Invoke 3) 32 room) Setup Idle Answered Active
+    ∷ step (Time 20) Answered Active Answered Active ∷ [])
     ≡ paid 20 Caller ∷ []
 at-the-request = refl
 

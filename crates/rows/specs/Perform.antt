@@ -16,7 +16,10 @@ use Rattle.rows.specs.declared.Call.{Call}
 use Rattle.rows.specs.declared.Component.{Component}
 use Rattle.rows.specs.declared.Component.the-variants.{Absent}
 use Rattle.rows.specs.declared.Next.{Next}
-use Rattle.rows.specs.declared.Next.the-variants.{Stay, ToNull, ToSetup, ToWaitSetup, ToWaitAnswer, ToWaitAnswerTransfer, ToWaitSetupConf, ToWaitSetupConfTransfer, ToSetupWaitCalled, ToAnswered, ToWaitActive, ToWaitActiveConf, ToWaitActiveConfTransfer, ToWaitCalledRest, ToWaitCalledEntire, ToActive, ToCleared}
+use Rattle.rows.specs.declared.Next.the-variants.{Stay, ToNull, ToSetup, ToWaitSetup, ToWaitAnswer, ToWaitAnswerTransfer}
+use Rattle.rows.specs.declared.Next.the-variants.{ToWaitSetupConf, ToWaitSetupConfTransfer, ToSetupWaitCalled, ToAnswered}
+use Rattle.rows.specs.declared.Next.the-variants.{ToWaitActive, ToWaitActiveConf, ToWaitActiveConfTransfer, ToWaitCalledRest}
+use Rattle.rows.specs.declared.Next.the-variants.{ToWaitCalledEntire, ToActive, ToCleared}
 use Rattle.rows.specs.declared.Note.{Note}
 use Rattle.rows.specs.declared.Number.{Number}
 use Rattle.rows.specs.declared.Outcome.{Outcome}
@@ -27,7 +30,8 @@ use Rattle.rows.specs.declared.Reading.{Reading}
 use Rattle.rows.specs.declared.Register.{Register}
 use Rattle.rows.specs.declared.Register.the-variants.{AsHeld, FromOpening, CalledNumber, CallingNumber}
 use Rattle.rows.specs.declared.RevState.{RevState}
-use Rattle.rows.specs.declared.RevState.the-variants.{Idle, WaitSetup, WaitActive, WaitAnswer, Active, WaitSetupConf, WaitActiveConf, WaitCalled}
+use Rattle.rows.specs.declared.RevState.the-variants.{Idle, WaitSetup, WaitActive, WaitAnswer, Active, WaitSetupConf, WaitActiveConf}
+use Rattle.rows.specs.declared.RevState.the-variants.{WaitCalled}
 use Rattle.rows.specs.declared.Role.{Role}
 use Rattle.rows.specs.declared.Role.the-variants.{Originating, Destination}
 use Rattle.rows.specs.declared.Side.{Side}
@@ -149,7 +153,16 @@ sideOf CallingNumber s r = withNumbers s (orHeld (leb 1 (r .calling .count)) (r 
 
 -- a refusal: its number, no actions and the call as it stood
 abbrev pub refusedOf : ℕ → Call → Outcome
-refusedOf n c = record { number = n; call = c; note = noNote; first = Act.Nothing; second = Act.Nothing; third = Act.Nothing; fourth = Act.Nothing }
+refusedOf n c =
+    record {
+      number = n;
+      call = c;
+      note = noNote;
+      first = Act.Nothing;
+      second = Act.Nothing;
+      third = Act.Nothing;
+      fourth = Act.Nothing;
+    }
 
 abbrev pub givenOf : Plan → Call → Note → Act → Outcome
 givenOf p c m stop =

@@ -10,7 +10,8 @@ use lib.Dec.{eqb, leb}
 use Rattle.meters.specs.Meters.{limit}
 use Rattle.meters.specs.declared.Meters.{Meters}
 use Rattle.meters.specs.declared.Payer.the-variants.{Nobody}
-use Rattle.rows.specs.Bill.{same, bitAt, lowestBit, resultTo, invokeOf, Case, Mark, plain, second, reversed, Paid, Step, pick, accepted}
+use Rattle.rows.specs.Bill.{same, bitAt, lowestBit, resultTo, invokeOf, Case, Mark, plain, second, reversed, Paid, Step, pick}
+use Rattle.rows.specs.Bill.{accepted}
 use Rattle.rows.specs.Bill.{isAnswered, isRev, answered}
 use Rattle.rows.specs.Step.{unopenedCall, stepOf}
 use Rattle.rows.specs.Valid.{numberThere}
@@ -284,7 +285,7 @@ asksFully f m = f .interaction && (lowestBit (m .parts) || bitAt 32 (m .parts))
 
 -- originating, ANSWERED
 abbrev pub answeredTurns : RevState → Flags → Message → Bool
-answeredTurns Idle f m = isFacility m && (invokeOf 3 (m .component) && asksFully f m)  -- O24 to O27: cases B and C asked for by the called user
+answeredTurns Idle f m = isFacility m && (invokeOf 3 (m .component) && asksFully f m)  -- O24 to O27: the called user asks for B or C
 answeredTurns WaitSetup f m = false
 answeredTurns WaitActive f m = isFacility m && resultTo 2 (m .component)  -- O28, O29: FAC with the result of case B
 answeredTurns WaitAnswer f m = false
@@ -309,7 +310,7 @@ calledTurns WaitAnswer f rest m = false
 calledTurns Active f rest m = false
 calledTurns WaitSetupConf f rest m = false
 calledTurns WaitActiveConf f rest m = false
-calledTurns WaitCalled f rest m = isFacility m && (resultTo 3 (m .component) && acceptsFully f rest m)  -- D45 to D47: the result of case B or C
+calledTurns WaitCalled f rest m = isFacility m && (resultTo 3 (m .component) && acceptsFully f rest m)  -- D45 to D47: the result of B or C
 
 -- destination, SETUP: what the own access tells
 abbrev pub setupTold : RevState → ℕ → Bool

@@ -58,7 +58,16 @@ pub data Deed : Type 0 where
   sends : Message → Deed
 
 abbrev pub messageOf : ℕ → ℕ → Note → Message
-messageOf k u m = record { kind = k; cause = u; component = m .component; parts = m .parts; calling = m .calling; called = m .called; duration = m .duration }
+messageOf k u m =
+    record {
+      kind = k;
+      cause = u;
+      component = m .component;
+      parts = m .parts;
+      calling = m .calling;
+      called = m .called;
+      duration = m .duration;
+    }
 
 -- where an action is Nothing there is none; only REL has a cause
 abbrev pub andThen : Note → Act → List Deed → List Deed

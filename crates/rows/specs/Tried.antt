@@ -5,7 +5,9 @@ use mathlib.Core.Bool.{true, false}
 use mathlib.Core.List.{List, [], _∷_}
 use mathlib.Core.Path.{_≡_, refl}
 use Rattle.meters.specs.declared.Payer.{Payer}
-use Rattle.rows.specs.Numbers.{iam, anm, rel, fac, callingReqSetup, calledRequest, notAvailable, alreadyRunning, normalClearing, facilityRejected, noPart, transferPart, partialPart, callingPart, calledPart, durationPart, agreedParts}
+use Rattle.rows.specs.Numbers.{iam, anm, rel, fac, callingReqSetup, calledRequest, notAvailable, alreadyRunning, normalClearing}
+use Rattle.rows.specs.Numbers.{facilityRejected, noPart, transferPart, partialPart, callingPart, calledPart, durationPart}
+use Rattle.rows.specs.Numbers.{agreedParts}
 use Rattle.rows.specs.Perform.{at}
 use Rattle.rows.specs.Read.{absent, flagsOf}
 use Rattle.rows.specs.Step.{unopenedCall, stepOf, Deed, does, tells, sends, deedsOf}
@@ -39,7 +41,9 @@ line n p s a b f w = record { number = n; phase = p; rev = s; caller = a; called
 
 abbrev lineOf : Outcome → Line
 lineOf o =
-    line (o .number) (o .call .stand .phase) (o .call .stand .rev) (o .call .meters .caller) (o .call .meters .called) (o .call .meters .far) (deedsOf o)
+    line (o .number) (o .call .stand .phase) (o .call .stand .rev)
+    (o .call .meters .caller) (o .call .meters .called) (o .call .meters .far)
+    (deedsOf o)
 
 -- the lines of a history, from a call
 abbrev run : Call → List Event → List Line
@@ -50,14 +54,16 @@ abbrev room : Number
 room = record { count = 7; value = 5550123 }
 
 abbrev message : ℕ → ℕ → Component → ℕ → Number → Number → ℕ → Message
-message k u x p calling called d = record { kind = k; cause = u; component = x; parts = p; calling = calling; called = called; duration = d }
+message k u x p calling called d =
+    record { kind = k; cause = u; component = x; parts = p; calling = calling; called = called; duration = d }
 
 abbrev plain : ℕ → ℕ → Component → Message
 plain k u x = message k u x noPart absent absent 0
 
 -- L: opening, originating, flags 8; A; 8 seconds; ANM with result; 60 seconds; B; clear
 case-l : run unopenedCall
-    (Opening 0 8 room ∷ Ask 1 room ∷ Time 8 ∷ Received (plain anm 0 (Result callingReqSetup)) ∷ Time 60 ∷ Ask 2 absent ∷ FromAccess 4 0 ∷ [])
+    (Opening 0 8 room ∷ Ask 1 room ∷ Time 8 ∷ Received (plain anm 0 (Result callingReqSetup)) ∷ Time 60
+    ∷ Ask 2 absent ∷ FromAccess 4 0 ∷ [])
     ≡ line 0 Null Idle 0 0 0 []
     ∷ line 0 Setup WaitSetup 0 0 0 (sends (plain iam 0 (Invoke callingReqSetup)) ∷ [])
     ∷ line 0 Setup WaitSetup 0 0 0 []
@@ -72,7 +78,8 @@ case-l = refl
 answered-without-word : run unopenedCall (Opening 0 8 room ∷ Ask 1 room ∷ Received (plain anm 0 (Absent 0)) ∷ [])
     ≡ line 0 Null Idle 0 0 0 []
     ∷ line 0 Setup WaitSetup 0 0 0 (sends (plain iam 0 (Invoke callingReqSetup)) ∷ [])
-    ∷ line 0 Cleared Idle 0 0 0 (tells AccessError notAvailable ∷ tells AccessRel facilityRejected ∷ sends (plain rel facilityRejected (Absent 0)) ∷ [])
+    ∷ line 0 Cleared Idle 0 0 0
+    (tells AccessError notAvailable ∷ tells AccessRel facilityRejected ∷ sends (plain rel facilityRejected (Absent 0)) ∷ [])
     ∷ []
 answered-without-word = refl
 
@@ -85,7 +92,9 @@ forty-twenty flags parts called =
 
 abbrev until-forty : List Line → List Line
 until-forty rest =
-    line 0 Null Idle 0 0 0 [] ∷ line 0 Setup Idle 0 0 0 (sends (plain iam 0 (Absent 0)) ∷ []) ∷ line 0 Answered Idle 0 0 0 (does ChargeCalling ∷ [])
+    line 0 Null Idle 0 0 0 []
+    ∷ line 0 Setup Idle 0 0 0 (sends (plain iam 0 (Absent 0)) ∷ [])
+    ∷ line 0 Answered Idle 0 0 0 (does ChargeCalling ∷ [])
     ∷ line 0 Answered Idle 40 0 0 [] ∷ rest
 
 -- C accepted without transfer: 0, 60, 0
@@ -100,7 +109,8 @@ entire-call = refl
 entire-call-transferred : forty-twenty 9 transferPart absent
     ≡ until-forty
     (line 0 Answered Active 0 0 40
-    (sends (message fac 0 (Result calledRequest) (agreedParts + callingPart + durationPart) room absent 40) ∷ does NotifyAccepted ∷ does Stop ∷ [])
+    (sends (message fac 0 (Result calledRequest) (agreedParts + callingPart + durationPart) room absent 40)
+    ∷ does NotifyAccepted ∷ does Stop ∷ [])
     ∷ line 0 Answered Active 0 0 60 []
     ∷ [])
 entire-call-transferred = refl

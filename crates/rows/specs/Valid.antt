@@ -14,7 +14,8 @@ use Rattle.rows.specs.declared.Role.the-variants.{Originating, Destinati
 use Rattle.rows.specs.declared.Phase.{Phase}
 use Rattle.rows.specs.declared.Phase.the-variants.{Unopened, Null, Setup, Answered, Cleared}
 use Rattle.rows.specs.declared.RevState.{RevState}
-use Rattle.rows.specs.declared.RevState.the-variants.{Idle, WaitSetup, WaitActive, WaitAnswer, Active, WaitSetupConf, WaitActiveConf, WaitCalled}
+use Rattle.rows.specs.declared.RevState.the-variants.{Idle, WaitSetup, WaitActive, WaitAnswer, Active, WaitSetupConf, WaitActiveConf}
+use Rattle.rows.specs.declared.RevState.the-variants.{WaitCalled}
 use Rattle.rows.specs.declared.Number.{Number}
 use Rattle.rows.specs.declared.Message.{Message}
 use Rattle.rows.specs.declared.Call.{Call}

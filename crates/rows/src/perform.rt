@@ -1,7 +1,8 @@
 // PERFORM: a plan carried out, once. Only here is a call touched: its side by what is registered, its stand by where it goes
 // next, its meters by their change.
 ghost use mathlib.Core.Path.{_≡_};
-ghost use Rattle.rows.specs.Perform.{ifThere, secondsIf, noteOf, stoppingOf, isStop, givenAs, standOf, roleBy, orHeld, openedOf, withNumbers, sideOf, refusedOf, givenOf, followsOf, doesOf, appliesOf, performOf};
+ghost use Rattle.rows.specs.Perform.{ifThere, secondsIf, noteOf, stoppingOf, isStop, givenAs, standOf, roleBy, orHeld, openedOf};
+ghost use Rattle.rows.specs.Perform.{withNumbers, sideOf, refusedOf, givenOf, followsOf, doesOf, appliesOf, performOf};
 use crate::ABSENT;
 use crate::Act;
 use crate::Call;

@@ -1,6 +1,9 @@
 // Which calls the table of document 01 allows (else 9), and which events have their fields in range (else 3).
 ghost use mathlib.Core.Path.{_≡_};
-ghost use Rattle.rows.specs.Valid.{idleOnly, originatingSetup, originatingAnswered, destinationSetup, destinationAnswered, placedOf, tenTo, inRange, unmetered, payerNobody, payerThere, noCaller, meteredOf, payingThere, payingOf, numbersHeld, validOf, numberThere, numberAbsent, numberIf, openingOk, askOk, componentOk, partsOk, messageOk, accessOk, eventOk};
+ghost use Rattle.rows.specs.Valid.{idleOnly, originatingSetup, originatingAnswered, destinationSetup, destinationAnswered, placedOf};
+ghost use Rattle.rows.specs.Valid.{tenTo, inRange, unmetered, payerNobody, payerThere, noCaller, meteredOf, payingThere, payingOf};
+ghost use Rattle.rows.specs.Valid.{numbersHeld, validOf, numberThere, numberAbsent, numberIf, openingOk, askOk, componentOk, partsOk};
+ghost use Rattle.rows.specs.Valid.{messageOk, accessOk, eventOk};
 use crate::Call;
 use crate::Component;
 use crate::Event;
