@@ -350,7 +350,7 @@ fn ask_setup(interaction: Interaction, mode: Mode) -> Plan
     }
 }
 
-// Case D asked for by the called user: 3.5.2.5.1.1 i, ii, up to the answer; 3.5.2.5.1.2, first sentence. Charging starts at the answer.
+// Case D asked for by the called user: 3.5.2.5.1.1 i, ii, up to the answer; 3.5.2.5.1.2, first sentence.
 fn unconditional_asked(interaction: Interaction, mode: Mode, called: bool) -> Plan
     ensures { λ out. ⌜ out ≡ unconditionalAsked interaction mode called ⌝ }
 {
@@ -363,7 +363,7 @@ fn unconditional_asked(interaction: Interaction, mode: Mode, called: bool) -> Pl
                 called,
                 sends(
                     Next::ToWaitAnswer,
-                    Change::Keep,
+                    Change::Keep, // charging starts at the answer
                     Register::CalledNumber,
                     Act::SendFac,
                     Component::Result(CALLED_REQUEST),
