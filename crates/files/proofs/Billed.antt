@@ -10,7 +10,7 @@ use mathlib.Core.Path.{_≡_, refl, sym, subst, _∙_}
 use mathlib.Core.List.{List, _++_}
 use mathlib.Core.Logic.{_⊎_}
 use mathlib.Core.Option.{some}
-use Prim.Native.Nat.{ℕ, _+_}
+use Prim.Native.Nat.{ℕ, _+_, _<_}
 use native.Mathlib.Omega.{arith}
 use lib.ListN.{length, take, drop, getElem?}
 use lib.Seq.{take-append-seam, drop-append-seam}
@@ -26,7 +26,7 @@ use Rattle.files.specs.Fit.{longest, answers, leaves}
 use Rattle.files.specs.Lines.{numberedLine, metersText, lineText, recordText}
 use Rattle.files.specs.Listing.{listingOf}
 use Rattle.files.specs.Shown.{eventsOf, Shown, shownOf, shownText, AnswersEvent, RefusesRecord, billText, billedText}
-use Rattle.files.proofs.Eight.{listing-length}
+use Rattle.files.proofs.Eight.{listing-length, listing-eight}
 use Rattle.files.proofs.Same.{Fitted}
 use Rattle.files.proofs.Shown.{listing-shown, kth-shown, kth-call}
 
@@ -34,9 +34,12 @@ use Rattle.files.proofs.Shown.{listing-shown, kth-shown, kth-call}
 
 -- `rev_listing` gave n for the file s, and left the buffer `new` where `old` was
 pub record Gets (s old : List ℕ) (n : ℕ) (new : List ℕ) : Type 0 where
-  -- 8: the buffer is as it was
+  -- 8: the file or its listing is too long, and the buffer is as it was
+  pub reason : n ≡ 8 → (65536 < length s) ⊎ (length old < length (listingOf s))
   pub refused : n ≡ 8 → new ≡ old
-  -- any other n: the first n bytes are the header, the text of each record shown, and END with their count
+  -- any other n is the length of the listing
+  pub size : (n ≡ 8 → ⊥) → n ≡ length (listingOf s)
+  -- the first n bytes are the header, the text of each record shown, and END with their count
   pub listing : (n ≡ 8 → ⊥) → take n new ≡ ascii "REV 1\n" ++ shownText (shownOf s) ++ numberedLine (ascii "END ") (length (shownOf s))
   -- and the bytes past them stay
   pub beyond : (n ≡ 8 → ⊥) → drop n new ≡ drop n old
@@ -53,14 +56,23 @@ host-gets s old n new (e, f) =
     (λ q. given (e ∙ sym (no-lt _ _ _ _ _ p (no-lt _ _ _ _ _ q refl))) (f ∙ sym (no-lt _ _ _ _ _ p (no-lt _ _ _ _ _ q refl))))
   where
     not-given : n ≡ 8 → new ≡ old → Gets s old n new
-    not-given e f = record { refused = λ _. f; listing = λ g. absurd (g e); beyond = λ g. absurd (g e) }
+    not-given p q =
+        record {
+          reason = λ g. listing-eight s old .0 (sym e ∙ g);
+          refused = λ _. q;
+          size = λ g. absurd (g p);
+          listing = λ g. absurd (g p);
+          beyond = λ g. absurd (g p);
+        }
 
     given : n ≡ length (listingOf s) → new ≡ listingOf s ++ drop (length (listingOf s)) old → Gets s old n new
-    given e f =
+    given p q =
         record {
+          reason = λ g. listing-eight s old .0 (sym e ∙ g);
           refused = λ g. absurd (omega (arith, listing-length s));
-          listing = λ _. rw (e, f) (take-append-seam (listingOf s) (drop (length (listingOf s)) old) ∙ listing-shown s);
-          beyond = λ _. rw (e, f) (drop-append-seam (listingOf s) (drop (length (listingOf s)) old));
+          size = λ _. p;
+          listing = λ _. rw (p, q) (take-append-seam (listingOf s) (drop (length (listingOf s)) old) ∙ listing-shown s);
+          beyond = λ _. rw (p, q) (drop-append-seam (listingOf s) (drop (length (listingOf s)) old));
         }
 
 -- ---- The k-th record shown, k from 0

@@ -1,7 +1,7 @@
 -- Any two results that a contract of `files` allows are the same: a law for each form that is not already in the Same.antt of `text`
 -- (`same`: `read_at`, `found_at`, `take_at`, `left`, `count_records`; `put-same`: the writers).
 -- Assumes nothing.
-use mathlib.Core.Path.{_≡_, refl, sym, ap, _∙_}
+use mathlib.Core.Path.{_≡_, ap, _∙_}
 use mathlib.Core.List.{List}
 use Prim.Native.Nat.{ℕ}
 use denote.Ref.{RefT, now}
