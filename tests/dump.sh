@@ -17,9 +17,19 @@ check() {
     fi
 }
 
-# bytes OCTAL..: the bytes of a file
+# bytes HEX..: the bytes of a file
 bytes() {
-    for byte; do printf '%b' "\\0$byte"; done >target/dump/file
+    for byte; do printf "\\$(printf '%03o' "0x$byte")"; done >target/dump/file
+}
+
+# fill BYTES: the records of the file again and again, as far as a file of so many bytes goes
+fill() {
+    while [ "$(wc -c <target/dump/file)" -lt "$1" ]; do
+        cat target/dump/file target/dump/file >target/dump/twice
+        mv target/dump/twice target/dump/file
+    done
+    head -c "$1" target/dump/file >target/dump/twice
+    mv target/dump/twice target/dump/file
 }
 
 what="an empty file"
@@ -28,47 +38,273 @@ printf 'RECORDS 0\n' >target/dump/wanted
 check "$@"
 
 what="each kind, then a record that is cut short"
-bytes 15 0 1 0 0 10 7 24 260 124 0 0 0 0 0 \
-    14 0 2 0 1 7 53 260 124 0 0 0 0 0 \
-    7 0 3 0 2 0 2 1 0 \
-    4 0 4 0 4 0 \
-    2 0 5 0 \
-    6 0 6 0 10 0 0 0 \
-    6 0 6 0 10
+bytes 0D 00 01 00 00 09 07 14 B0 54 00 00 00 00 00 \
+    0C 00 02 00 02 00 00 00 00 00 00 00 00 00 \
+    07 00 03 00 02 00 02 01 00 \
+    04 00 04 00 04 00 \
+    02 00 05 00 \
+    06 00 06 00 3C 00 00 00 \
+    06 00 06 00 08
 cat >target/dump/wanted <<'END'
 RECORDS 7
-1 OPENING 0
-2 REQUEST 15
-3 MESSAGE 29
-4 ACCESS 38
-5 EXPIRY 44
-6 TIME 48
-7 CUT-SHORT 56
+1 0 OPENING originating transfer,interaction 5550100
+2 15 REQUEST B -
+3 29 ANM 0 RESULT SETUP
+4 38 ACCESS CLEAR 0
+5 44 EXPIRY
+6 48 TIME 60
+7 56 CUT-SHORT
+END
+check "$@"
+
+what="openings: roles and flags"
+bytes 0D 00 01 00 00 00 07 14 B0 54 00 00 00 00 00 \
+    0D 00 01 00 01 01 07 14 B0 54 00 00 00 00 00 \
+    0D 00 01 00 02 02 07 14 B0 54 00 00 00 00 00 \
+    0D 00 01 00 FF 04 07 14 B0 54 00 00 00 00 00 \
+    0D 00 01 00 00 08 07 14 B0 54 00 00 00 00 00 \
+    0D 00 01 00 00 10 07 14 B0 54 00 00 00 00 00 \
+    0D 00 01 00 00 06 07 14 B0 54 00 00 00 00 00 \
+    0D 00 01 00 01 1F 07 14 B0 54 00 00 00 00 00 \
+    0D 00 01 00 07 20 07 14 B0 54 00 00 00 00 00 \
+    0D 00 01 00 00 C8 07 14 B0 54 00 00 00 00 00 \
+    0D 00 01 00 00 FF 07 14 B0 54 00 00 00 00 00
+cat >target/dump/wanted <<'END'
+RECORDS 11
+1 0 OPENING originating - 5550100
+2 15 OPENING destination transfer 5550100
+3 30 OPENING 2 option 5550100
+4 45 OPENING 255 subscribed 5550100
+5 60 OPENING originating interaction 5550100
+6 75 OPENING originating case-d 5550100
+7 90 OPENING originating option,subscribed 5550100
+8 105 OPENING destination transfer,option,subscribed,interaction,case-d 5550100
+9 120 OPENING 7 32 5550100
+10 135 OPENING originating 200 5550100
+11 150 OPENING originating 255 5550100
+END
+check "$@"
+
+what="requests, and numbers in range: none, leading zeros, 1 and 15 digits"
+bytes 0C 00 02 00 00 07 2B B0 54 00 00 00 00 00 \
+    0C 00 02 00 01 08 2B B0 54 00 00 00 00 00 \
+    0C 00 02 00 02 00 00 00 00 00 00 00 00 00 \
+    0C 00 02 00 03 01 00 00 00 00 00 00 00 00 \
+    0C 00 02 00 04 01 09 00 00 00 00 00 00 00 \
+    0C 00 02 00 09 0F 00 00 00 00 00 00 00 00 \
+    0C 00 02 00 FF 0F FF 7F C6 A4 7E 8D 03 00 \
+    0C 00 02 00 00 07 7F 96 98 00 00 00 00 00
+cat >target/dump/wanted <<'END'
+RECORDS 8
+1 0 REQUEST BASIC 5550123
+2 14 REQUEST A 05550123
+3 28 REQUEST B -
+4 42 REQUEST C 0
+5 56 REQUEST 4 9
+6 70 REQUEST 9 000000000000000
+7 84 REQUEST 255 999999999999999
+8 98 REQUEST BASIC 9999999
+END
+check "$@"
+
+what="numbers out of range: count and value"
+bytes 0C 00 02 00 00 00 05 00 00 00 00 00 00 00 \
+    0C 00 02 00 00 07 80 96 98 00 00 00 00 00 \
+    0C 00 02 00 00 10 00 00 00 00 00 00 00 00 \
+    0C 00 02 00 00 14 05 00 00 00 00 00 00 00 \
+    0C 00 02 00 00 01 0A 00 00 00 00 00 00 00 \
+    0C 00 02 00 00 09 00 CA 9A 3B 00 00 00 00 \
+    0C 00 02 00 00 09 01 CA 9A 3B 00 00 00 00 \
+    0C 00 02 00 00 08 FF C9 9A 3B 00 00 00 00 \
+    0C 00 02 00 00 0F 00 80 C6 A4 7E 8D 03 00 \
+    0C 00 02 00 00 0F FF FF 63 A7 B3 B6 E0 0D \
+    0C 00 02 00 00 0F 00 00 64 A7 B3 B6 E0 0D \
+    0C 00 02 00 00 FF FF FF FF FF FF FF FF FF
+cat >target/dump/wanted <<'END'
+RECORDS 12
+1 0 REQUEST BASIC 0:5
+2 14 REQUEST BASIC 7:10000000
+3 28 REQUEST BASIC 16:0
+4 42 REQUEST BASIC 20:5
+5 56 REQUEST BASIC 1:10
+6 70 REQUEST BASIC 9:1000000000
+7 84 REQUEST BASIC 9:1000000001
+8 98 REQUEST BASIC 8:999999999
+9 112 REQUEST BASIC 15:1000000000000000
+10 126 REQUEST BASIC 15:999999999999999999
+11 140 REQUEST BASIC 15:1000000000000000000
+12 154 REQUEST BASIC 255:18446744073709551615
+END
+check "$@"
+
+what="messages: names and causes"
+bytes 07 00 03 00 01 00 00 00 00 \
+    07 00 03 00 02 01 00 00 00 \
+    07 00 03 00 03 10 00 00 00 \
+    07 00 03 00 04 7F 00 00 00 \
+    07 00 03 00 05 80 00 00 00 \
+    07 00 03 00 00 00 00 00 00 \
+    07 00 03 00 06 FF 00 00 00 \
+    07 00 03 00 FF 00 00 00 00
+cat >target/dump/wanted <<'END'
+RECORDS 8
+1 0 IAM 0
+2 9 ANM 1
+3 18 CON 16
+4 27 REL 127
+5 36 FAC 128
+6 45 MESSAGE 0 0
+7 54 MESSAGE 6 255
+8 63 MESSAGE 255 0
+END
+check "$@"
+
+what="messages: components"
+bytes 07 00 03 00 05 00 00 05 00 \
+    07 00 03 00 05 00 01 00 00 \
+    07 00 03 00 05 00 01 01 00 \
+    07 00 03 00 05 00 01 02 00 \
+    07 00 03 00 05 00 01 03 00 \
+    07 00 03 00 05 00 01 04 00 \
+    07 00 03 00 05 00 02 00 00 \
+    07 00 03 00 05 00 02 01 00 \
+    07 00 03 00 05 00 02 02 00 \
+    07 00 03 00 05 00 02 03 00 \
+    07 00 03 00 05 00 02 FF 00 \
+    07 00 03 00 05 00 03 00 00 \
+    07 00 03 00 05 00 03 0C 00 \
+    07 00 03 00 05 00 04 00 00 \
+    07 00 03 00 05 00 04 07 00 \
+    07 00 03 00 05 00 05 00 00 \
+    07 00 03 00 05 00 06 09 00 \
+    07 00 03 00 05 00 FF FF 00
+cat >target/dump/wanted <<'END'
+RECORDS 18
+1 0 FAC 0 NONE 5
+2 9 FAC 0 INVOKE 0
+3 18 FAC 0 INVOKE SETUP
+4 27 FAC 0 INVOKE ACTIVE
+5 36 FAC 0 INVOKE CALLED
+6 45 FAC 0 INVOKE 4
+7 54 FAC 0 RESULT 0
+8 63 FAC 0 RESULT SETUP
+9 72 FAC 0 RESULT ACTIVE
+10 81 FAC 0 RESULT CALLED
+11 90 FAC 0 RESULT 255
+12 99 FAC 0 ERROR 0
+13 108 FAC 0 ERROR 12
+14 117 FAC 0 REJECT
+15 126 FAC 0 REJECT 7
+16 135 FAC 0 COMPONENT 5 0
+17 144 FAC 0 COMPONENT 6 9
+18 153 FAC 0 COMPONENT 255 255
+END
+check "$@"
+
+what="messages: parts, each alone and all of them, in range and out of it"
+bytes 07 00 03 00 05 00 00 00 01 \
+    07 00 03 00 05 00 00 00 02 \
+    07 00 03 00 05 00 00 00 04 \
+    07 00 03 00 05 00 00 00 08 \
+    10 00 03 00 05 00 00 00 10 07 14 B0 54 00 00 00 00 00 \
+    10 00 03 00 05 00 00 00 20 08 2B B0 54 00 00 00 00 00 \
+    0B 00 03 00 05 00 00 00 40 28 00 00 00 \
+    07 00 03 00 05 00 00 00 80 \
+    10 00 03 00 05 00 02 03 20 00 00 00 00 00 00 00 00 00 \
+    1D 00 03 00 04 10 02 03 7F 07 14 B0 54 00 00 00 00 00 07 2B B0 54 00 00 00 00 00 00 00 00 00 \
+    1D 00 03 00 09 C8 FE FD FF 00 01 00 00 00 00 00 00 00 14 05 00 00 00 00 00 00 00 FF FF FF FF
+cat >target/dump/wanted <<'END'
+RECORDS 11
+1 0 FAC 0 TRANSFER
+2 9 FAC 0 ACCEPTED
+3 18 FAC 0 AS-TRANSFER
+4 27 FAC 0 PARTIAL
+5 36 FAC 0 CALLING 5550100
+6 54 FAC 0 CALLED 05550123
+7 72 FAC 0 DURATION 40
+8 85 FAC 0 PART 128
+9 94 FAC 0 RESULT CALLED CALLED -
+10 112 REL 16 RESULT CALLED TRANSFER ACCEPTED AS-TRANSFER PARTIAL CALLING 5550100 CALLED 5550123 DURATION 0
+11 143 MESSAGE 9 200 COMPONENT 254 253 TRANSFER ACCEPTED AS-TRANSFER PARTIAL CALLING 0:1 CALLED 20:5 DURATION 4294967295 PART 128
+END
+check "$@"
+
+what="what the access tells, and times"
+bytes 04 00 04 00 00 00 \
+    04 00 04 00 01 00 \
+    04 00 04 00 02 0C \
+    04 00 04 00 03 00 \
+    04 00 04 00 04 FF \
+    04 00 04 00 05 00 \
+    04 00 04 00 06 01 \
+    04 00 04 00 FF FF \
+    06 00 06 00 00 00 00 00 \
+    06 00 06 00 80 51 01 00 \
+    06 00 06 00 81 51 01 00 \
+    06 00 06 00 FF FF FF FF
+cat >target/dump/wanted <<'END'
+RECORDS 12
+1 0 ACCESS 0 0
+2 6 ACCESS ACCEPT 0
+3 12 ACCESS ERROR 12
+4 18 ACCESS REJECT 0
+5 24 ACCESS CLEAR 255
+6 30 ACCESS ANSWER 0
+7 36 ACCESS 6 1
+8 42 ACCESS 255 255
+9 48 TIME 0
+10 56 TIME 86400
+11 64 TIME 86401
+12 72 TIME 4294967295
 END
 check "$@"
 
 what="a length that no record has"
-bytes 2 0 5 0 1 0 5 0 2 0 5 0
-printf 'RECORDS 2\n1 EXPIRY 0\n2 BAD-LENGTH 4\n' >target/dump/wanted
+bytes 02 00 05 00 01 00 05 00 02 00 05 00
+printf 'RECORDS 2\n1 0 EXPIRY\n2 4 BAD-LENGTH\n' >target/dump/wanted
+check "$@"
+
+what="a length that is not the kind's"
+bytes 02 00 05 00 04 00 05 00 00 00 02 00 05 00
+printf 'RECORDS 2\n1 0 EXPIRY\n2 4 BAD-LENGTH\n' >target/dump/wanted
 check "$@"
 
 what="a kind that is none"
-bytes 2 0 5 0 2 0 7 0 2 0 5 0
-printf 'RECORDS 2\n1 EXPIRY 0\n2 UNKNOWN-KIND 4\n' >target/dump/wanted
+bytes 02 00 05 00 02 00 07 00 02 00 05 00
+printf 'RECORDS 2\n1 0 EXPIRY\n2 4 UNKNOWN-KIND\n' >target/dump/wanted
 check "$@"
 
 what="16,384 expiries, the most records that a file has"
-bytes 2 0 5 0
-for _ in 1 2 3 4 5 6 7 8 9 10 11 12 13 14; do
-    cat target/dump/file target/dump/file >target/dump/twice
-    mv target/dump/twice target/dump/file
-done
-awk 'BEGIN { print "RECORDS 16384"; for (i = 1; i <= 16384; i++) print i, "EXPIRY", 4 * (i - 1) }' >target/dump/wanted
+bytes 02 00 05 00
+fill 65536
+awk 'BEGIN { print "RECORDS 16384"; for (i = 1; i <= 16384; i++) print i, 4 * (i - 1), "EXPIRY" }' >target/dump/wanted
 check "$@"
 
 what="a byte more than a file may have"
 printf '\002' >>target/dump/file
 printf 'REFUSED 8\n' >target/dump/wanted
+check "$@"
+
+what="7,281 messages with all the words that 9 bytes can have and a record that is cut short, the longest dump"
+bytes 07 00 03 00 FF FF FF FF 8F
+fill 65536
+awk 'BEGIN {
+    words = "MESSAGE 255 255 COMPONENT 255 255 TRANSFER ACCEPTED AS-TRANSFER PARTIAL PART 128"
+    print "RECORDS 7282"
+    for (i = 1; i <= 7281; i++) print i, 9 * (i - 1), words
+    print "7282 65529 CUT-SHORT"
+}' >target/dump/wanted
+check "$@"
+
+what="4,369 openings with all the words that they can have"
+bytes 0D 00 01 00 00 1F FF FF FF FF FF FF FF FF FF
+fill 65536
+awk 'BEGIN {
+    words = "OPENING originating transfer,option,subscribed,interaction,case-d 255:18446744073709551615"
+    print "RECORDS 4370"
+    for (i = 1; i <= 4369; i++) print i, 15 * (i - 1), words
+    print "4370 65535 CUT-SHORT"
+}' >target/dump/wanted
 check "$@"
 
 exit $failed
