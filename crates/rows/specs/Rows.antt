@@ -239,9 +239,9 @@ setupConfirmed NoTransfer =  -- D10  3.5.2.1.5.1 a
 setupConfirmed Transfer =  -- D11  3.5.2.1.5.1 b
     turns CalledPays AsHeld ChargeCalled SendAnm Nothing Nothing (Result callingReqSetup) agreedParts
 
--- 01: "(16 if none)": the access gives no cause
+-- the access gives no cause
 abbrev pub setupRefused : Correctness → ℕ → ℕ → Plan
-setupRefused Correct error cause =  -- D12  3.5.2.1.5.2 i
+setupRefused Correct error cause =  -- D12  3.5.2.1.5.2 i; 01, "(16 if none)"
     farRelease error cause
 setupRefused Incorrect error cause =  -- D13  3.5.2.1.5.2 i
     farRelease notAvailable facilityRejected
