@@ -208,8 +208,10 @@ name == "Numbers.antt" && /^[a-zA-Z]+ = [0-9]+$/ { number[$1] = $3; next }
 name == "Perform.antt" && /^standOf Stay / { stands_next["Stay"] = "the same"; next }
 name == "Perform.antt" && /^standOf [A-Z]/ {
     stands_next[$2] = toupper($6) " " shown($7)
-    if ($7 ~ /^(WaitAnswer|WaitSetupConf|WaitActiveConf)$/) stands_next[$2] = stands_next[$2] ($8 == "true" ? ", transfer agreed" : ", no transfer agreed")
-    if ($6 == "Answered" && $7 == "WaitCalled") stands_next[$2] = stands_next[$2] ($9 == "true" ? ", case B asked for" : ", case C asked for")
+    agreed = $8 == "true" ? ", transfer agreed" : ", no transfer agreed"
+    asked = $9 == "true" ? ", case B asked for" : ", case C asked for"
+    if ($7 ~ /^(WaitAnswer|WaitSetupConf|WaitActiveConf)$/) stands_next[$2] = stands_next[$2] agreed
+    if ($6 == "Answered" && $7 == "WaitCalled") stands_next[$2] = stands_next[$2] asked
     next
 }
 
@@ -233,7 +235,10 @@ name == "Rows.antt" && line && /^ / { right_of[line] = right_of[line] " " trim(c
 name == "Find.antt" && /^-- (originating|destination|both roles|before)/ { place = substr($0, 4); next }
 name == "Find.antt" && /^abbrev pub .* : Kind / { place_of[$3] = place; table = $3; next }
 name == "Find.antt" && /^abbrev/ { table = ""; next }
-name == "Find.antt" && table != "" && /^[a-zA-Z]+Of [A-Z][a-z]+ e =/ { now = $2; if (!(now in kind)) wrong("specs/Find.antt has the kind " now) }
+name == "Find.antt" && table != "" && /^[a-zA-Z]+Of [A-Z][a-z]+ e =/ {
+    now = $2
+    if (!(now in kind)) wrong("specs/Find.antt has the kind " now)
+}
 name == "Find.antt" && table != "" && (/^ / || /^[a-zA-Z]+Of [A-Z][a-z]+ e =/) {
     code = code_of($0)
     sub(/^[a-zA-Z]+Of [A-Z][a-z]+ e =/, "", code)
@@ -312,32 +317,46 @@ name == "ROWS.md" && /^\| [GOD][0-9]+ \|/ {
     table_of[label] = part[2]; stand_of[label] = part[1]; role_of[label] = role
     next
 }
-# - G4 is found by `waitSetupOf`, ..
-name == "ROWS.md" && /^- G[0-9] is found by / {
+# - G4 is found by `waitSetupOf`, .., on a line and those that go on with it
+name == "ROWS.md" && /^- G[0-9] is found by / { both = $2 }
+name == "ROWS.md" && !/^(- G|  )/ { both = "" }
+name == "ROWS.md" && both != "" {
     n = split($0, part, /`/)
-    for (i = 2; i <= n; i += 2) both_at[$2, part[i]] = 1
+    for (i = 2; i <= n; i += 2) both_at[both, part[i]] = 1
     next
 }
-# where each sentence went: clause: labels
+# where each sentence went: clause: item labels; item labels. clause: ..
 name == "ROWS.md" && /^- 3\.5\.2\./ {
-    text = $0
-    gsub(/[,;]/, " ", text)
-    n = split(text, part, /[ .]*( |$)/)
+    text = substr($0, 3)
+    gsub(/\. 3\.5\.2/, "; 3.5.2", text)
+    sub(/\.$/, "", text)
+    n = split(text, segment, / *; */)
     for (i = 1; i <= n; i++) {
-        if (part[i] ~ /^3\.5\.2\.[1-5]\.[15]\.[12]:$/) { clause = substr(part[i], 1, length(part[i]) - 1); listed[clause]++ }
-        if (part[i] ~ /^[GOD][0-9]+$/) went[part[i], clause] = 1
+        if (match(segment[i], /^3\.5\.2\.[1-5]\.[15]\.[12]: */)) {
+            clause = substr(segment[i], 1, RLENGTH)
+            sub(/:.*/, "", clause)
+            listed[clause]++
+            segment[i] = substr(segment[i], RLENGTH + 1)
+        }
+        item = segment[i]
+        gsub(/ *[GOD][0-9]+,?/, "", item)
+        m = labels(segment[i])
+        for (j = 1; j <= m; j++) {
+            if ((found[j], clause) in went) wrong("docs/ROWS.md: " clause " went to " found[j] " twice")
+            went[found[j], clause] = item
+        }
     }
     next
 }
 
 # ---- The cases
 
-FILENAME ~ /tests\/.*\.txt$/ && /^## / { this = substr($0, 4); if (cases[this]++) twice[this] = 1; part_of = 1; at = shows = 0; next }
-FILENAME ~ /tests\/.*\.txt$/ && part_of == 1 && $0 == "=" { part_of = 2; next }
-FILENAME ~ /tests\/.*\.txt$/ && part_of == 1 { record[this, ++at] = $0; next }
-FILENAME ~ /tests\/.*\.txt$/ && $0 == "" { part_of = 0; next }
-FILENAME ~ /tests\/.*\.txt$/ && part_of == 2 && /^[0-9]/ { shows = $1; listing[this, shows] = $0; next }
-FILENAME ~ /tests\/.*\.txt$/ && part_of == 2 && /^> / {
+name ~ /\.txt$/ && /^## / { this = substr($0, 4); if (cases[this]++) twice[this] = 1; part_of = 1; at = shows = 0; next }
+name ~ /\.txt$/ && part_of == 1 && $0 == "=" { part_of = 2; next }
+name ~ /\.txt$/ && part_of == 1 { record[this, ++at] = $0; next }
+name ~ /\.txt$/ && $0 == "" { part_of = 0; next }
+name ~ /\.txt$/ && part_of == 2 && /^[0-9]/ { shows = $1; listing[this, shows] = $0; next }
+name ~ /\.txt$/ && part_of == 2 && /^> / {
     does[this, shows] = does[this, shows] (does[this, shows] == "" ? "" : "; ") substr($0, 3)
     next
 }
@@ -387,8 +406,10 @@ function check_row(label,   n, i, j, line, hits, head, row, part, list, miss, ch
         place = place_of[table_of[label]]
         sub(/^both roles/, role_of[label], place)
         if (place ~ /NULL$/) place = place ", IDLE"
-        if (place != role_of[label] ", " stand_of[label]) wrong("docs/ROWS.md has " table_of[label] " at " stand_of[label] ", specs/Find.antt at " place)
-        for (name in place_of) if (name != table_of[label] && (label, name) in finds) wrong("specs/Find.antt finds " label " in " name " too")
+        if (place != role_of[label] ", " stand_of[label])
+            wrong("docs/ROWS.md has " table_of[label] " at " stand_of[label] ", specs/Find.antt at " place)
+        for (name in place_of)
+            if (name != table_of[label] && (label, name) in finds) wrong("specs/Find.antt finds " label " in " name " too")
     }
     for (i = 1; i <= n; i++) {
         if (!((label, list[i]) in found_word)) wrong("specs/Find.antt finds no " list[i] " for " label)
@@ -466,14 +487,15 @@ function holds(text, flags, item, error, parts) {
 }
 
 # the event of a record, in the page's words
-function event_words(text,   k, c, word) {
+function event_words(text,   k, component, word) {
     k = byte(text, 3)
     if (k == 1) return "opening"
     if (k == 2) return "own request " substr("0ABC", byte(text, 5) + 1, 1)
     if (k == 3) {
         split("IAM,ANM or CON,ANM or CON,REL,FAC", word, /,/)
-        c = byte(text, 7)
-        return word[byte(text, 5)] ", " (c == 0 ? "no component" : c == 1 ? "invoke " operation[byte(text, 8)] : c == 2 ? "result " operation[byte(text, 8)] : c == 3 ? "error" : "reject")
+        split("invoke " operation[byte(text, 8)] ",result " operation[byte(text, 8)] ",error,reject", component, /,/)
+        component[0] = "no component"
+        return word[byte(text, 5)] ", " component[byte(text, 7)]
     }
     split("accept,error,reject,clear,answer without REV", word, /,/)
     if (k == 4) return "access: " word[byte(text, 5)]
@@ -481,18 +503,18 @@ function event_words(text,   k, c, word) {
 }
 
 # whether a record's event is one that the page names
-function same_event(text, page,   head) {
-    if (text == page) return 1
+function same_event(text, page,   n, i, one) {
     if (page == "REL, any component") return text ~ /^REL, /
     if (page == "FAC, any invoke") return text ~ /^FAC, invoke /
     if (page == "own request A, B or C") return text ~ /^own request [ABC]$/
-    head = text
-    sub(/(, |: |request ).*/, "", head)
-    return index(page, head) == 1 && index(page " or ", substr(text, length(head) + 1) " or ") > 0 || \
-        index(page, head) == 1 && index(page " or ", " or " substr(text, match(text, /(, |: |request )/) + RLENGTH) " or ") > 0
+    if (!match(text, /^(own request |IAM, |ANM or CON, |REL, |FAC, |access: )/)) return text == page
+    if (index(page, substr(text, 1, RLENGTH)) != 1) return 0
+    n = split(substr(page, RLENGTH + 1), one, / or /)
+    for (i = 1; i <= n; i++) if (one[i] == substr(text, RLENGTH + 1)) return 1
+    return 0
 }
 
-function check_case(label, name, ordinal,   text, before, after, n, i, m, act, want, got, page, flags, parts, error, cause, list, given, at, which, seconds, payer) {
+function check_case(label, name, ordinal,   text, before, after, n, i, want, got, flags, parts, error, cause, list, given, at, payer) {
     if (!(name in cases)) { wrong(label ": there is no case " name); return }
     if (name in twice) { wrong(label ": two cases have the name " name); return }
     if (!((name, ordinal) in listing)) { wrong(label ": " name " shows no record " ordinal); return }
@@ -506,7 +528,8 @@ function check_case(label, name, ordinal,   text, before, after, n, i, m, act, w
     if (label !~ /^G/) {
         if (byte(record[name, 1], 5) != (label ~ /^O/ ? 0 : 1)) wrong(label ": " shown_by " is at the other exchange")
         if (before[3] ", " before[4] != stand_of[label]) wrong(label ": " shown_by " stands at " before[3] ", " before[4])
-    } else if ((label == "G2" && before[3] != "SETUP") || (label == "G3" && before[3] != "ANSWERED")) wrong(label ": " shown_by " stands at " before[3])
+    } else if ((label == "G2" && before[3] != "SETUP") || (label == "G3" && before[3] != "ANSWERED"))
+        wrong(label ": " shown_by " stands at " before[3])
 
     # its event and conditions
     n = split(event[label], list, /; /)
@@ -560,16 +583,16 @@ END {
                 else stopped[label] = 1
                 continue
             }
-            if (split(shows_it[j], part, /` ?/) != 3 || part[3] !~ /^[0-9]+$/) { wrong("docs/ROWS.md: " label " is shown by \"" shows_it[j] "\""); continue }
-            check_case(label, part[2], part[3])
+            if (split(shows_it[j], part, /` ?/) == 3 && part[3] ~ /^[0-9]+$/) check_case(label, part[2], part[3])
+            else wrong("docs/ROWS.md: " label " is shown by \"" shows_it[j] "\"")
         }
         if (answer[label] ~ /\[STOP\]/ && !(label in stopped)) wrong(label ": nothing shows it with STOP")
     }
 
     # every label, wherever it stands, is that of the page
-    for (key in found_word) { split(key, part, SUBSEP); if (!(key in is_word)) wrong("specs/Find.antt: " part[1] " is " part[2] ", not so in docs/ROWS.md") }
-    for (key in in_enum) { split(key, part, SUBSEP); if (!(key in is_word)) wrong("src/lib.rt: " part[1] " is " part[2] ", not so in docs/ROWS.md") }
-    for (key in in_code) { split(key, part, SUBSEP); if (!(key in is_word)) wrong("src/rows.rt: " part[1] " is Row::" part[2] ", not so in docs/ROWS.md") }
+    for (key in found_word) not_so("specs/Find.antt", key)
+    for (key in in_enum) not_so("src/lib.rt", key)
+    for (key in in_code) not_so("src/rows.rt", key)
     for (row in variant) if (row != "NoRow" && !(row in plan_at)) wrong("specs/Rows.antt has no planOf " row)
     for (i = 1; i <= lines; i++) {
         split(left_of[i], part, / /)
@@ -577,20 +600,23 @@ END {
         n = split(trim(named[i]), list, / /)
         for (j = 1; j <= n; j++) {
             if (!(list[j] in is_row)) { wrong("specs/Rows.antt, " left_of[i] " names " list[j]); continue }
-            if (head == "planOf") { if (!((list[j], part[2]) in is_word)) wrong("specs/Rows.antt, " left_of[i] " names " list[j] ", docs/ROWS.md not") }
-            else {
-                in_definition[head] = in_definition[head] " " list[j]
-                if (index(left_of[i] " ", definition[list[j]] " ") != 1 && trim(right_of[line_of(list[j])]) != head)
-                    wrong("specs/Rows.antt, " left_of[i] " names " list[j] ", docs/ROWS.md not")
+            if (head == "planOf") {
+                if (!((list[j], part[2]) in is_word)) wrong("specs/Rows.antt, " left_of[i] " names " list[j] ", docs/ROWS.md not")
+                continue
             }
+            in_definition[head] = in_definition[head] " " list[j]
+            if (index(left_of[i] " ", definition[list[j]] " ") != 1 && trim(right_of[line_of(list[j])]) != head)
+                wrong("specs/Rows.antt, " left_of[i] " names " list[j] ", docs/ROWS.md not")
         }
     }
     # the arms of the code have the labels of the definition's lines, in their order
     for (head in in_definition) {
-        if (arms[snake(head)] != in_definition[head]) wrong("src/rows.rt, " snake(head) " has the labels" arms[snake(head)] ", specs/Rows.antt, " head in_definition[head])
+        if (arms[snake(head)] != in_definition[head])
+            wrong("src/rows.rt, " snake(head) " has the labels" arms[snake(head)] ", specs/Rows.antt, " head in_definition[head])
         known[snake(head)] = 1
     }
-    for (head in arms) if (head != "plan_of" && !(head in known)) wrong("src/rows.rt, " head " has the labels" arms[head] ", specs/Rows.antt none")
+    for (head in arms)
+        if (head != "plan_of" && !(head in known)) wrong("src/rows.rt, " head " has the labels" arms[head] ", specs/Rows.antt none")
 
     # the rows of both roles: in each table of their phase but where a role has its own
     for (name in place_of) {
@@ -619,6 +645,8 @@ END {
     for (key in went) {
         split(key, part, SUBSEP)
         if (!(key in said)) wrong("docs/ROWS.md: " part[2] " went to " part[1] ", whose row does not name it")
+        else if ((miss = within(went[key], sentence[part[1]])) != "")
+            wrong("docs/ROWS.md: " part[2] " " went[key] " went to " part[1] ", whose sentence has no \"" miss "\"")
     }
     for (i = 1; i <= 5; i++) for (j = 1; j <= 5; j += 4) for (k = 1; k <= 2; k++) {
         clause = "3.5.2." i "." j "." k
@@ -626,6 +654,11 @@ END {
     }
     if (faults) exit 1
     print "rows: " rows " rows, each the same on the page, in the definitions, in the code's labels and in a case"
+}
+
+function not_so(file, key,   part) {
+    split(key, part, SUBSEP)
+    if (!(key in is_word)) wrong(file ": " part[1] " is " part[2] ", not so in docs/ROWS.md")
 }
 
 # the line of specs/Rows.antt that a row has on the page
