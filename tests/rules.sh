@@ -9,7 +9,7 @@ tr -s '\n ' '  ' <docs/RULES.md >"$room/rules"
 # "001" is a name of the Recommendation, and no phrase
 cat docs/ROWS.md docs/DECISIONS.md docs/STATEMENTS.md crates/*/specs/*.antt crates/*/src/*.rt | grep -oE '01,? "[^"]*"' |
     sed -e 's/^01,* "//' -e 's/"$//' -e 's/ \.\.\., /\n/g' | grep -v '^001$' | sort -u >"$room/phrases"
-awk -F'|' '/^\| [GOD][0-9]+ / && $4 ~ /(^|[^0-9])01([^0-9]|$)/ { gsub(/ /, "", $2); print $2 }' docs/ROWS.md | sort -u >"$room/rows"
+awk -F'|' '/^\| [GOD][0-9]+ / && $6 ~ /(^|[^0-9])01([^0-9]|$)/ { gsub(/ /, "", $2); print $2 }' docs/ROWS.md | sort -u >"$room/rows"
 # the rows that the page names, one a line; "O6 to O8" is three
 awk '{
     gsub(/[^A-Za-z0-9]/, " ")

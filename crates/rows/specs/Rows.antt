@@ -181,9 +181,9 @@ calledAsked Allowed Rest NoTransfer called =  -- O24  3.5.2.3.1.1 i; 01, "the ca
     needs called (turns CalledPays CalledNumber SendFac NotifyAccepted Stop ChargeCalled (Result calledRequest) noPart)
 calledAsked Allowed Rest Transfer called =  -- O25  3.5.2.3.1.1 ii
     turns FarPays AsHeld SendFac NotifyAccepted Stop Nothing (Result calledRequest) (agreedParts + callingPart)
-calledAsked Allowed Entire NoTransfer called =  -- O26  3.5.2.4.1.1 i; 01, "the called number with an invoke CALLED"
+calledAsked Allowed Entire NoTransfer called =  -- O26  3.5.2.4.1.1 i; 01, "Case C moves"; 01, "the called number with an invoke CALLED"
     needs called (turns EntireToCalled CalledNumber SendFac NotifyAccepted Stop ChargeCalled (Result calledRequest) noPart)
-calledAsked Allowed Entire Transfer called =  -- O27  3.5.2.4.1.1 ii
+calledAsked Allowed Entire Transfer called =  -- O27  3.5.2.4.1.1 ii; 01, "Case C moves"
     turns EntireToFar AsHeld SendFac NotifyAccepted Stop Nothing (Result calledRequest) (agreedParts + callingPart + durationPart)
 
 -- case B takes effect in the answered call: the caller was charged before
@@ -239,9 +239,9 @@ setupConfirmed NoTransfer =  -- D10  3.5.2.1.5.1 a
 setupConfirmed Transfer =  -- D11  3.5.2.1.5.1 b
     turns CalledPays AsHeld ChargeCalled SendAnm Nothing Nothing (Result callingReqSetup) agreedParts
 
--- 01: "(16 if none)": the access gives no cause
+-- the access gives no cause
 abbrev pub setupRefused : Correctness → ℕ → ℕ → Plan
-setupRefused Correct error cause =  -- D12  3.5.2.1.5.2 i
+setupRefused Correct error cause =  -- D12  3.5.2.1.5.2 i; 01, "(16 if none)"
     farRelease error cause
 setupRefused Incorrect error cause =  -- D13  3.5.2.1.5.2 i
     farRelease notAvailable facilityRejected

@@ -5,16 +5,16 @@ use mathlib.Core.Bool.{true, false}
 use mathlib.Core.List.{List, [], _∷_}
 use mathlib.Core.Path.{_≡_, refl}
 use Rattle.meters.specs.declared.Payer.{Payer}
-use Rattle.rows.specs.Numbers.{iam, anm, rel, fac, callingReqSetup, calledRequest, notAvailable, alreadyRunning, normalClearing}
-use Rattle.rows.specs.Numbers.{facilityRejected, noPart, transferPart, partialPart, callingPart, calledPart, durationPart}
-use Rattle.rows.specs.Numbers.{agreedParts}
+use Rattle.rows.specs.Numbers.{iam, anm, rel, fac, callingReqSetup, calledRequest, notAvailable, basicServiceNotProvided}
+use Rattle.rows.specs.Numbers.{alreadyRunning, normalClearing, facilityRejected, noPart, transferPart, partialPart, callingPart}
+use Rattle.rows.specs.Numbers.{calledPart, durationPart, agreedParts}
 use Rattle.rows.specs.Perform.{at}
 use Rattle.rows.specs.Read.{absent, flagsOf}
 use Rattle.rows.specs.Step.{unopenedCall, stepOf, Deed, does, tells, sends, deedsOf}
 use Rattle.rows.specs.declared.Act.the-variants.{NotifyAccepted, AccessError, AccessRel, ChargeCalling, ChargeCalled, Stop}
 use Rattle.rows.specs.declared.Call.{Call}
 use Rattle.rows.specs.declared.Component.{Component}
-use Rattle.rows.specs.declared.Component.the-variants.{Absent, Invoke, Result}
+use Rattle.rows.specs.declared.Component.the-variants.{Absent, Invoke, Result, Error}
 use Rattle.rows.specs.declared.Event.{Event}
 use Rattle.rows.specs.declared.Event.the-variants.{Opening, Ask, Received, FromAccess, Expiry, Time}
 use Rattle.rows.specs.declared.Message.{Message}
@@ -23,7 +23,7 @@ use Rattle.rows.specs.declared.Outcome.{Outcome}
 use Rattle.rows.specs.declared.Phase.{Phase}
 use Rattle.rows.specs.declared.Phase.the-variants.{Null, Setup, Answered, Cleared}
 use Rattle.rows.specs.declared.RevState.{RevState}
-use Rattle.rows.specs.declared.RevState.the-variants.{Idle, WaitSetup, Active}
+use Rattle.rows.specs.declared.RevState.the-variants.{Idle, WaitSetup, WaitActiveConf, WaitCalled, Active}
 use Rattle.rows.specs.declared.Role.{Role}
 
 -- a line of the listing, without its printing
@@ -149,3 +149,23 @@ year-and-a-second = refl
 -- expiry in IDLE gives 1
 idle-expiry : run (talked 40) (Expiry ∷ []) ≡ line 1 Answered Idle 40 0 0 [] ∷ []
 idle-expiry = refl
+
+-- ---- STOP in D42 and D52: from an opening the far exchange pays in these states, but a host may hand in a call that the called user pays
+
+abbrev paid-here : RevState → Call
+paid-here state =
+    record {
+      side = record { role = Role.Destination; flags = flagsOf 8; own = room; calling = absent; called = absent };
+      stand = at Answered state false false;
+      meters = record { caller = 0; called = 40; far = 0; payer = Payer.Called };
+    }
+
+-- D42: the own user is asked, and her access clears
+cleared-while-asked : run (paid-here WaitActiveConf) (FromAccess 4 0 ∷ [])
+    ≡ line 0 Cleared Idle 0 40 0 (does Stop ∷ sends (plain rel normalClearing (Error basicServiceNotProvided)) ∷ []) ∷ []
+cleared-while-asked = refl
+
+-- D52: the originating exchange is asked, and releases the call with cause 31
+released-while-asking : run (paid-here WaitCalled) (Received (plain rel 31 (Absent 0)) ∷ [])
+    ≡ line 0 Cleared Idle 0 40 0 (tells AccessError basicServiceNotProvided ∷ tells AccessRel 31 ∷ does Stop ∷ []) ∷ []
+released-while-asking = refl
