@@ -19,6 +19,7 @@ check() {
 
 # bytes HEX..: the bytes of a file
 bytes() {
+    # shellcheck disable=SC2059 # the format is the escape of one byte
     for byte; do printf "\\$(printf '%03o' "0x$byte")"; done >target/dump/file
 }
 
