@@ -8,7 +8,7 @@ use rows::Component;
 use rows::Note;
 use rows::Number;
 
-pub fn put_operation(out: &mut [u8], at: usize, operation: u8) -> usize
+pub(crate) fn put_operation(out: &mut [u8], at: usize, operation: u8) -> usize
     requires { ⌜ at < 2 ^ 61 ⌝ }
     ensures { λ r. ⌜ Put (now (out .entry)) at (operationText operation) (now (out .exit)) r ⌝ }
     ensures { λ r. ⌜ r ≤ at + 7 ⌝ }
@@ -49,7 +49,7 @@ fn put_component(out: &mut [u8], at: usize, component: Component) -> usize
 }
 
 // A word where its part is present.
-pub fn put_if(out: &mut [u8], at: usize, present: u8, word: &[u8]) -> usize
+pub(crate) fn put_if(out: &mut [u8], at: usize, present: u8, word: &[u8]) -> usize
     requires { ⌜ at + length (now word) < 2 ^ 61 ⌝ }
     ensures { λ r. ⌜ Put (now (out .entry)) at (textIf present (now (word .entry))) (now (out .exit)) r ⌝ }
     ensures { λ r. ⌜ r ≤ at + length (now (word .entry)) ⌝ }
@@ -61,7 +61,7 @@ pub fn put_if(out: &mut [u8], at: usize, present: u8, word: &[u8]) -> usize
 }
 
 // A word and as many digits as the number's count.
-pub fn put_with_digits(out: &mut [u8], at: usize, word: &[u8], n: Number) -> usize
+pub(crate) fn put_with_digits(out: &mut [u8], at: usize, word: &[u8], n: Number) -> usize
     requires { ⌜ at + length (now word) < 2 ^ 61 ⌝ }
     ensures { λ r. ⌜ Put (now (out .entry)) at (withDigits (now (word .entry)) n) (now (out .exit)) r ⌝ }
     ensures { λ r. ⌜ r ≤ at + length (now (word .entry)) + 255 ⌝ }
@@ -83,7 +83,7 @@ fn put_digits_if(out: &mut [u8], at: usize, present: u8, word: &[u8], n: Number)
     at
 }
 
-pub fn put_duration_if(out: &mut [u8], at: usize, present: u8, seconds: u32) -> usize
+pub(crate) fn put_duration_if(out: &mut [u8], at: usize, present: u8, seconds: u32) -> usize
     requires { ⌜ at < 2 ^ 61 ⌝ }
     ensures { λ r. ⌜ Put (now (out .entry)) at (textIf present (numbered (ascii " DURATION ") seconds)) (now (out .exit)) r ⌝ }
     ensures { λ r. ⌜ r ≤ at + 20 ⌝ }
@@ -95,7 +95,7 @@ pub fn put_duration_if(out: &mut [u8], at: usize, present: u8, seconds: u32) -> 
 }
 
 // The parts that are words alone.
-pub fn put_parts(out: &mut [u8], at: usize, parts: u8) -> usize
+pub(crate) fn put_parts(out: &mut [u8], at: usize, parts: u8) -> usize
     requires { ⌜ at < 2 ^ 60 ⌝ }
     ensures { λ r. ⌜ Put (now (out .entry)) at (partsText parts) (now (out .exit)) r ⌝ }
     ensures { λ r. ⌜ r ≤ at + 38 ⌝ }

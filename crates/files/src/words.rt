@@ -360,7 +360,7 @@ fn put_access(out: &mut [u8], at: usize, item: u8, error: u8) -> usize
     put_code(out, to, error)
 }
 
-pub fn put_event(out: &mut [u8], at: usize, e: Event) -> usize
+pub(crate) fn put_event(out: &mut [u8], at: usize, e: Event) -> usize
     requires { ⌜ at < 2 ^ 57 ⌝ }
     ensures { λ r. ⌜ Put (now (out .entry)) at (eventWords e) (now (out .exit)) r ⌝ }
     ensures { λ r. ⌜ r ≤ at + 656 ⌝ }
