@@ -5,6 +5,7 @@ mod differential;
 mod generate;
 mod listing;
 mod model;
+mod undump;
 
 use std::io::{Read, Write};
 use std::process::ExitCode;
@@ -15,6 +16,7 @@ const USAGE: &str = "usage:
   reference differential --count N --seed S [--keep PATH] -- COMMAND ARGS..
                                                  compares COMMAND's listings of N files with the model's
   reference coverage --count N --seed S          how often N files reach each row and number
+  reference undump FILE < DUMP                   whether a dump is FILE's: it is read back
   reference generate --count N --seed S --out DIR
                                                  writes N files
 ";
@@ -73,6 +75,14 @@ fn run(words: &[String]) -> Result<bool, Trouble> {
             }
             print!("{}", coverage.report());
             Ok(coverage.missing().is_empty())
+        }
+        "undump" => {
+            let [path] = rest else { return Err(Trouble(USAGE.into())) };
+            let compared = undump::compare(&std::io::read_to_string(std::io::stdin())?, &std::fs::read(path)?);
+            if let Err(what) = &compared {
+                println!("{path}: {what}");
+            }
+            Ok(compared.is_ok())
         }
         "generate" => {
             let options = Options::read(rest, &["--count", "--seed", "--out"])?;

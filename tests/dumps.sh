@@ -1,0 +1,32 @@
+#!/bin/sh
+# dumps.sh [--count N] [--seed S]: generated event files (300 of seed 1 where it is not said), damaged ones among them, dumped by ./dump
+# and read back, from the words alone, by host/reference: every byte of every record must be there. Needs cargo.
+set -eu
+cd "$(dirname "$0")/.."
+count=300 seed=1
+while [ $# -ge 2 ]; do
+    case $1 in
+    --count) count=$2 ;;
+    --seed) seed=$2 ;;
+    *) break ;;
+    esac
+    shift 2
+done
+if [ $# -ne 0 ]; then
+    echo "usage: dumps.sh [--count N] [--seed S]" >&2
+    exit 2
+fi
+if ! command -v cargo >/dev/null; then
+    echo "dumps: skipped, there is no cargo here"
+    exit 0
+fi
+cargo build --quiet --release --offline --manifest-path host/reference/Cargo.toml --target-dir target/reference
+reference=target/reference/release/reference
+rm -rf target/dumps
+$reference generate --count "$count" --seed "$seed" --out target/dumps
+failed=0
+for file in target/dumps/*.rev; do
+    ./dump "$file" | $reference undump "$file" || failed=$((failed + 1))
+done
+echo "dumps: $count files, $failed not read back"
+[ $failed -eq 0 ]
