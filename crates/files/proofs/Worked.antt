@@ -37,12 +37,17 @@ case-l =
     4 ∷ 0 ∷ 4 ∷ 0 ∷ 4 ∷ 0 ∷ []
 
 -- "Sixty seconds are `06 00 06 00 3C 00 00 00`"; "a kind 3 length follows parts 16, 32 and 64 alone": one below 7 is 6, and
--- part 128 does not change it; "a lone byte gives 5"; "Empty input gives `REV 1` and `END 0`"; case L
+-- part 128 does not change it; an unknown kind gives 7, "5 if bytes lack" before that, "6 for the kind" after; "digits (as many as the
+-- count)"; "a lone byte gives 5"; "Empty input gives `REV 1` and `END 0`"; case L
 worked :
     (readAt (6 ∷ 0 ∷ 6 ∷ 0 ∷ 60 ∷ 0 ∷ 0 ∷ 0 ∷ []) 0 ≡ Read.Got (Time 60) 8)
     × (readAt (6 ∷ 0 ∷ 3 ∷ 0 ∷ 5 ∷ 0 ∷ 0 ∷ 0 ∷ []) 0 ≡ Read.Stop 6)
     × (readAt (7 ∷ 0 ∷ 3 ∷ 0 ∷ 5 ∷ 0 ∷ 0 ∷ 0 ∷ 128 ∷ []) 0
     ≡ Read.Got (Received (record { kind = 5; cause = 0; component = Absent 0; parts = 128; calling = absent; called = absent; duration = 0 })) 9)
+    × (readAt (2 ∷ 0 ∷ 7 ∷ 0 ∷ []) 0 ≡ Read.Stop 7)
+    × (readAt (3 ∷ 0 ∷ 7 ∷ 0 ∷ []) 0 ≡ Read.Stop 5)
+    × (readAt (3 ∷ 0 ∷ 5 ∷ 0 ∷ 0 ∷ []) 0 ≡ Read.Stop 6)
+    × (withDigits (ascii " CALLED ") (record { count = 8; value = 5550123 }) ≡ ascii " CALLED 05550123")
     × (listingOf (6 ∷ []) ≡ ascii "REV 1\n1 5 NONE IDLE 0 0 0\nEND 1\n")
     × (listingOf [] ≡ ascii "REV 1\nEND 0\n")
     × (listingOf case-l
@@ -62,4 +67,4 @@ worked :
     ++ ascii "> REL 16\n"
     ++ ascii "END 7\n")
 unfolding case-l listingOf recordsOf restOf answerOf placesOf placesFrom placeAfter recordText actionsText releasedText sentText carriedText numberedLine lineText metersText standText valuesText partsText withDigits textIf withOperation operationText readAt eventAt accessAt messageAt durationIf numberIf componentOf askAt openingAt frameAt frameOf lengthOf numberAt le8At le4At le2At numbered decimal decimalBy lastDigits ifLt ifLe ifEq ifSo
-worked = (refl, refl, refl, refl, refl, refl)
+worked = (refl, refl, refl, refl, refl, refl, refl, refl, refl, refl)

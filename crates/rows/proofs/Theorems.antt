@@ -13,7 +13,7 @@ use Rattle.meters.specs.declared.Payer.the-variants.{Nobody}
 use Rattle.rows.specs.Bill.{isAnswered, answered, Case, plain, marks, took, reversal, payer, bill, line}
 use Rattle.rows.specs.History.{run, history, opening}
 use Rattle.rows.specs.Perform.{refusedOf}
-use Rattle.rows.specs.Promises.{noneIs, unpaid, Answering, placeIn, isOpening, openingThere, secondsThere, noDuration}
+use Rattle.rows.specs.Promises.{NothingDone, noneIs, unpaid, Answering, placeIn, isOpening, openingThere, secondsThere, noDuration}
 use Rattle.rows.specs.Promises.{reversals, Extends, Redialled, AllRedialled, Renumbered, SameAnswer, numbers, takesEffect, InEffect}
 use Rattle.rows.specs.Step.{unopenedCall, stepOf}
 use Rattle.rows.specs.Valid.{validOf, eventOk}
@@ -37,9 +37,13 @@ use Rattle.rows.proofs.Whole.{Shows}
 
 -- ---- Demand 1: every event has an answer
 
--- A refusal changes nothing: any answer but 0 is the refusal of its number, with no action and the call as it stood.
-pub refusal-changes-nothing : (c : Call) (e : Event) → (stepOf c e .number ≡ 0 → ⊥) → stepOf c e ≡ refusedOf (stepOf c e .number) c
+-- A refusal changes nothing: any answer but 0 has no action, and the call as it stood ..
+pub refusal-changes-nothing : (c : Call) (e : Event) → (stepOf c e .number ≡ 0 → ⊥) → NothingDone c (stepOf c e)
 refusal-changes-nothing = Refusals.refusal-changes-nothing
+
+-- .. and is the refusal of its number.
+pub refusal-is : (c : Call) (e : Event) → (stepOf c e .number ≡ 0 → ⊥) → stepOf c e ≡ refusedOf (stepOf c e .number) c
+refusal-is = Refusals.refusal-is
 
 -- A call stays a call, whatever the event.
 pub call-stays : (c : Call) (e : Event) → validOf c ≡ true → validOf (stepOf c e .call) ≡ true

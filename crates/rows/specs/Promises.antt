@@ -15,6 +15,7 @@ use Rattle.rows.specs.Bill.{accepted}
 use Rattle.rows.specs.Bill.{isAnswered, isRev, answered}
 use Rattle.rows.specs.Step.{unopenedCall, stepOf}
 use Rattle.rows.specs.Valid.{numberThere}
+use Rattle.rows.specs.declared.Act.{Act}
 use Rattle.rows.specs.declared.Call.{Call}
 use Rattle.rows.specs.declared.Component.{Component}
 use Rattle.rows.specs.declared.Component.the-variants.{Absent, Invoke, Result, Error, Reject, Unknown}
@@ -32,6 +33,16 @@ use Rattle.rows.specs.declared.RevState.the-variants.{WaitCalled}
 use Rattle.rows.specs.declared.Role.{Role}
 use Rattle.rows.specs.declared.Role.the-variants.{Originating, Destination}
 use Rattle.rows.specs.declared.Stand.{Stand}
+
+-- ---- A refusal changes nothing: proofs/Refusals.antt
+
+-- "no actions and the call as it stood"
+pub record NothingDone (c : Call) (o : Outcome) : Type 0 where
+  pub call : o .call ≡ c
+  pub first : o .first ≡ Act.Nothing
+  pub second : o .second ≡ Act.Nothing
+  pub third : o .third ≡ Act.Nothing
+  pub fourth : o .fourth ≡ Act.Nothing
 
 -- ---- A call stays a call: proofs/Stays.antt
 

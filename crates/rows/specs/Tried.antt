@@ -83,6 +83,23 @@ answered-without-word : run unopenedCall (Opening 0 8 room ∷ Ask 1 room ∷ Re
     ∷ []
 answered-without-word = refl
 
+-- WAIT-SETUP, REL with an error and cause 31: "the same error and cause to the access" where the module lists it; 3 and 13 it does not
+abbrev refused-with : ℕ → List Line
+refused-with error = run unopenedCall (Opening 0 8 room ∷ Ask 1 room ∷ Received (plain rel 31 (Error error)) ∷ [])
+
+abbrev told : ℕ → ℕ → List Line
+told error cause =
+    line 0 Null Idle 0 0 0 []
+    ∷ line 0 Setup WaitSetup 0 0 0 (sends (plain iam 0 (Invoke callingReqSetup)) ∷ [])
+    ∷ line 0 Cleared Idle 0 0 0 (tells AccessError error ∷ tells AccessRel cause ∷ [])
+    ∷ []
+
+listed-error : (refused-with 4 ≡ told 4 31) × (refused-with 12 ≡ told 12 31)
+listed-error = (refl, refl)
+
+unlisted-error : (refused-with 3 ≡ told notAvailable facilityRejected) × (refused-with 13 ≡ told notAvailable facilityRejected)
+unlisted-error = (refl, refl)
+
 -- an originating call with these flags, answered, 40 s paid by the caller; then an invoke from the called side with these parts; 20 s
 abbrev forty-twenty : ℕ → ℕ → Number → List Line
 forty-twenty flags parts called =
