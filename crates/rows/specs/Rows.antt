@@ -11,6 +11,8 @@
 -- charged here); EntireTo.. moves the caller's seconds there too; Keep is as before.
 -- Transfer or not (Read.antt, termsOf): mode, this exchange supports it; taken, an invoke requests it and this exchange supports it;
 -- accepted, this exchange requested it and the result accepts it; agreed, what was settled when the wait began.
+-- A message's parts: transferPart, Transfer Requested; agreedParts, Transfer Accepted; partialPart, Partial Call Only; callingPart and
+-- calledPart, the own number as Calling or Called User Number; durationPart, the caller's meter.
 -- Assumes nothing.
 use Prim.Native.Nat.{ℕ, _+_}
 use mathlib.Core.Bool.{Bool, true, false, _&&_}
