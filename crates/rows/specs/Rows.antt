@@ -225,7 +225,7 @@ plainIam Unconditional Allowed NoTransfer =  -- D3  3.5.2.5.5.1 i
 plainIam Unconditional Allowed Transfer =  -- D4  3.5.2.5.5.1 ii
     sends ToSetupWaitCalled Keep AsHeld SendFac (Invoke calledRequest) transferPart
 
--- case A asked for by the caller. calling: the calling number is there
+-- case A asked for by the caller. Judged: the check of 3.5.2.1.5.1 i, then interaction. calling: the calling number is there
 abbrev pub setupAsked : Judged → Mode → Bool → Plan
 setupAsked NotSubscribed mode calling =  -- D5  3.5.2.1.5.2, sentences 1 to 3
     farRelease userNotSubscribed facilityRejected
@@ -268,7 +268,7 @@ unconditionalConnected NoTransfer =  -- D22  3.5.2.5.5.1 a; 01, "in WAIT-ANSWER 
 unconditionalConnected Transfer =  -- D23  3.5.2.5.5.1 b; 01, "in WAIT-ANSWER too"
     turns CalledPays AsHeld ChargeCalled SendAnm Nothing Nothing (Absent 0) noPart
 
--- case B asked for by the caller. calling: the calling number is there
+-- case B asked for by the caller. Judged: the check of 3.5.2.2.5.1 i, then interaction. calling: the calling number is there
 abbrev pub activeAsked : Judged → Mode → Bool → Plan
 activeAsked NotSubscribed mode calling =  -- D26  3.5.2.2.5.2, first sentence
     farError Stay userNotSubscribed
@@ -279,7 +279,7 @@ activeAsked Passed NoTransfer calling =  -- D28  3.5.2.2.5.1 ii
 activeAsked Passed Transfer calling =  -- D29  3.5.2.2.5.1 iii; 01, "the calling number with an invoke SETUP or ACTIVE"
     needs calling (acts ToWaitActiveConfTransfer Keep CallingNumber AccessAsk Nothing Nothing)
 
--- case B or C asked for by the own user
+-- case B or C asked for by the own user. Judged: the check of 3.5.2.3.5.1 i, 3.5.2.4.5.1 i, then interaction
 abbrev pub askCalled : Judged → Extent → Mode → Plan
 askCalled NotSubscribed extent mode =  -- D30  3.5.2.3.5.2 i, 3.5.2.4.5.2 i
     accessError Stay userNotSubscribed
