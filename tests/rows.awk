@@ -462,8 +462,8 @@ function digits(text, at,   i, v, out) {
     return out
 }
 
-# whether a condition holds, as far as the opening and the record show it
-function holds(text, flags, item, error, parts) {
+# whether a condition holds: by the flags, the record, and what the records before it made pending
+function holds(text, flags, error, parts, agreed, asked) {
     if (text == "interaction allowed") return bit(flags, 8)
     if (text == "interaction not allowed") return !bit(flags, 8)
     if (text == "not subscribed") return bit(flags, 2) && !bit(flags, 4)
@@ -483,7 +483,11 @@ function holds(text, flags, item, error, parts) {
     if (text == "needs called number, or transfer requested") return bit(parts, 32) || bit(parts, 1)
     if (text == "needs calling number") return bit(parts, 16)
     if (text == "needs calling number and Duration") return bit(parts, 16) && bit(parts, 64)
-    return text ~ /^((no )?transfer agreed|case [BC] asked for)$/
+    if (text == "transfer agreed") return agreed
+    if (text == "no transfer agreed") return !agreed
+    if (text == "case B asked for") return asked == 2
+    if (text == "case C asked for") return asked == 3
+    return 0
 }
 
 # the event of a record, in the page's words
@@ -514,7 +518,8 @@ function same_event(text, page,   n, i, one) {
     return 0
 }
 
-function check_case(label, name, ordinal,   text, before, after, n, i, want, got, flags, parts, error, cause, list, given, at, payer) {
+function check_case(label, name, ordinal,   text, past, before, after, n, i, want, got, flags, parts, error, cause, agreed, asked,
+    list, given, at, payer) {
     if (!(name in cases)) { wrong(label ": there is no case " name); return }
     if (name in twice) { wrong(label ": two cases have the name " name); return }
     if (!((name, ordinal) in listing)) { wrong(label ": " name " shows no record " ordinal); return }
@@ -537,7 +542,17 @@ function check_case(label, name, ordinal,   text, before, after, n, i, want, got
     parts = byte(text, 3) == 3 ? byte(text, 9) : 0
     error = byte(text, 3) == 3 ? byte(text, 8) : byte(text, 3) == 4 ? byte(text, 6) : 0
     cause = byte(text, 3) == 3 ? byte(text, 6) : 16 # 01: "(16 if none)"
-    for (i = 2; i <= n; i++) if (!holds(list[i], flags, 0, error, parts)) wrong(label ": " shown_by " has not \"" list[i] "\"")
+    agreed = asked = 0
+    for (i = 2; i < ordinal; i++) {
+        split(listing[name, i], at, / /)
+        if (at[2] != 0) continue
+        past = record[name, i]
+        if (byte(past, 3) == 2) asked = byte(past, 5)
+        if (byte(past, 3) == 3 && byte(past, 7) == 1) agreed = bit(flags, 1) && bit(byte(past, 9), 1)
+        if (byte(past, 3) == 3 && byte(past, 7) == 2) agreed = bit(flags, 1) && bit(byte(past, 9), 2) && bit(byte(past, 9), 4)
+    }
+    for (i = 2; i <= n; i++)
+        if (!holds(list[i], flags, error, parts, agreed, asked)) wrong(label ": " shown_by " has not \"" list[i] "\"")
 
     # its answer: with STOP or without where it is in brackets
     got = does[name, ordinal] == "" ? "none" : does[name, ordinal]
@@ -563,7 +578,8 @@ function check_case(label, name, ordinal,   text, before, after, n, i, want, got
     if (!((name, ordinal + 1) in listing) || event_words(record[name, ordinal + 1]) != "time" || after[3] != "ANSWERED") return
     split(listing[name, ordinal + 1], at, / /)
     for (i = 5; i <= 7; i++) if (at[i] != after[i]) payer = i == 5 ? "caller pays" : i == 6 ? "called pays" : "far exchange pays"
-    if (payer != "" && follow[label] ~ /pays/ && follow[label] !~ payer && label != "G3") wrong(label ": after " shown_by " " payer)
+    if (payer != "" && follow[label] ~ / pays/ && index(follow[label], payer) == 0 && label != "G3")
+        wrong(label ": after " shown_by " " payer)
 }
 
 END {

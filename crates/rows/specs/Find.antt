@@ -1,6 +1,9 @@
 -- FIND: the row for an event, by role, phase, REV state and what the event is. One table for each place that 01 allows. In a table,
 -- the kinds of event; for a kind, one alternative a line, tried in this order, with the labels that its rows have in docs/ROWS.md
 -- and their sentences. What each row does is in Rows.antt.
+-- The kinds: Asks, a request of the own user; Iam, Answer (ANM or CON), Rel, Fac, a message of the other exchange; Tells, what the own
+-- access says; Expires; Passes, time. What is tested (Read.antt): alone, no component; failure, a Return error; rejection, a Reject;
+-- reversal, a request for case A, B or C; answers, an answer without REV. 3.5.2.n is each of 3.5.2.1 to 3.5.2.5.
 -- Assumes nothing.
 use mathlib.Core.Bool.{Bool, true, false}
 use Rattle.rows.specs.declared.Cue.{Cue}
@@ -228,14 +231,14 @@ destinationWaitAnswerOf Passes e = TimeInSetup  -- G2  01, "only ANSWERED counts
 abbrev pub destinationAnsweredIdleOf : Kind → Cue → Row
 destinationAnsweredIdleOf Opens e = NoRow
 destinationAnsweredIdleOf Asks e =
-    when (e .asked .caseb) AskPartial  -- D30 to D33  3.5.2.3.5.2 i, ii; 3.5.2.3.5.1 ii, iii
-    (when (e .asked .casec) AskEntire  -- D30, D31, D34, D35  3.5.2.4.5.2 i, ii; 3.5.2.4.5.1 ii, iii
+    when (e .asked .caseb) AskPartial  -- D30 to D33  3.5.2.3.5.2 i, ii; 3.5.2.3.5.1 i to iii
+    (when (e .asked .casec) AskEntire  -- D30, D31, D34, D35  3.5.2.4.5.2 i, ii; 3.5.2.4.5.1 i to iii
     NoRow)
 destinationAnsweredIdleOf Iam e = NoRow
 destinationAnsweredIdleOf Answer e = NoRow
 destinationAnsweredIdleOf Rel e = Released  -- G5  01, "a REL from the other exchange"
 destinationAnsweredIdleOf Fac e =
-    when (e .heard .invokeactive) ActiveAsked  -- D26 to D29  3.5.2.2.5.2, first two sentences; 3.5.2.2.5.1 ii, iii
+    when (e .heard .invokeactive) ActiveAsked  -- D26 to D29  3.5.2.2.5.2, first two sentences; 3.5.2.2.5.1 i to iii
     NoRow
 destinationAnsweredIdleOf Tells e = when (e .told .clears) ClearedHere NoRow  -- G4  01, "own access clearing"
 destinationAnsweredIdleOf Expires e = NoRow
@@ -264,14 +267,14 @@ answeredWaitCalledOf Opens e = NoRow
 answeredWaitCalledOf Asks e = NoRow
 answeredWaitCalledOf Iam e = NoRow
 answeredWaitCalledOf Answer e = NoRow
-answeredWaitCalledOf Rel e = WaitReleased  -- D52  3.5.2.3.5.2, 3.5.2.4.5.2, a Release Message
+answeredWaitCalledOf Rel e = WaitReleased  -- D52  3.5.2.3.5.2, a Release Message, 3.5.2.4.5.2, a Release Message
 answeredWaitCalledOf Fac e =
-    when (e .heard .resultcalled) CalledAccepted  -- D45 to D47  3.5.2.3.5.1, 3.5.2.4.5.1 a, b
-    (when (e .heard .failure) WaitError  -- D48, D49  3.5.2.3.5.2, 3.5.2.4.5.2 a
-    (when (e .heard .rejection) WaitFailed  -- D50  3.5.2.3.5.2, 3.5.2.4.5.2 b
+    when (e .heard .resultcalled) CalledAccepted  -- D45 to D47  3.5.2.3.5.1 a, b; 3.5.2.4.5.1 a, b
+    (when (e .heard .failure) WaitError  -- D48, D49  3.5.2.3.5.2 a, 3.5.2.4.5.2 a
+    (when (e .heard .rejection) WaitFailed  -- D50  3.5.2.3.5.2 b, 3.5.2.4.5.2 b
     NoRow))
 answeredWaitCalledOf Tells e = when (e .told .clears) ClearedHere NoRow  -- G4  01, "own access clearing"
-answeredWaitCalledOf Expires e = WaitFailed  -- D51  3.5.2.3.5.2, 3.5.2.4.5.2 c
+answeredWaitCalledOf Expires e = WaitFailed  -- D51  3.5.2.3.5.2 c, 3.5.2.4.5.2 c
 answeredWaitCalledOf Passes e = TimeCounts  -- G3  01, "one of them runs"
 
 -- originating, SETUP

@@ -5,6 +5,14 @@
 -- not say so (O1, O4, D19, D46) is decision 15 of docs/DECISIONS.md.
 -- A row that chooses takes what it looks at in one order everywhere: what was judged, how much of the call, transfer or not, and
 -- last which needed parts are there.
+-- Where next (Perform.antt, standOf): ToSetup, ToAnswered, ToCleared are SETUP, ANSWERED and CLEARED with REV IDLE; ToActive is ANSWERED
+-- and ACTIVE; ToWait.. is that wait; Stay is as it was.
+-- Who pays from then on: CallerPays and CalledPays are charged at this exchange, FarPays at the other one (transfer mode: nothing is
+-- charged here); EntireTo.. moves the caller's seconds there too; Keep is as before.
+-- Transfer or not (Read.antt, termsOf): mode, this exchange supports it; taken, an invoke requests it and this exchange supports it;
+-- accepted, this exchange requested it and the result accepts it; agreed, what was settled when the wait began.
+-- A message's parts: transferPart, Transfer Requested; agreedParts, Transfer Accepted; partialPart, Partial Call Only; callingPart and
+-- calledPart, the own number as Calling or Called User Number; durationPart, the caller's meter.
 -- Assumes nothing.
 use Prim.Native.Nat.{ℕ, _+_}
 use mathlib.Core.Bool.{Bool, true, false, _&&_}
@@ -175,7 +183,7 @@ askActive Allowed Transfer =  -- O22  3.5.2.2.1.1 ii
 -- case B or C asked for by the called user. called: the called number is there, or transfer requested in its place. The Duration is
 -- the caller's meter before it is emptied
 abbrev pub calledAsked : Interaction → Extent → Mode → Bool → Plan
-calledAsked NotAllowed extent mode called =  -- O23  3.5.2.3.1.2, 3.5.2.4.1.2, first sentence
+calledAsked NotAllowed extent mode called =  -- O23  3.5.2.3.1.2, first sentence, 3.5.2.4.1.2, first sentence
     farError Stay interactionNotAllowed
 calledAsked Allowed Rest NoTransfer called =  -- O24  3.5.2.3.1.1 i; 01, "the called number with an invoke CALLED"
     needs called (turns CalledPays CalledNumber SendFac NotifyAccepted Stop ChargeCalled (Result calledRequest) noPart)
@@ -217,7 +225,7 @@ plainIam Unconditional Allowed NoTransfer =  -- D3  3.5.2.5.5.1 i
 plainIam Unconditional Allowed Transfer =  -- D4  3.5.2.5.5.1 ii
     sends ToSetupWaitCalled Keep AsHeld SendFac (Invoke calledRequest) transferPart
 
--- case A asked for by the caller. calling: the calling number is there
+-- case A asked for by the caller. Judged: the check of 3.5.2.1.5.1 i, then interaction. calling: the calling number is there
 abbrev pub setupAsked : Judged → Mode → Bool → Plan
 setupAsked NotSubscribed mode calling =  -- D5  3.5.2.1.5.2, sentences 1 to 3
     farRelease userNotSubscribed facilityRejected
@@ -260,7 +268,7 @@ unconditionalConnected NoTransfer =  -- D22  3.5.2.5.5.1 a; 01, "in WAIT-ANSWER 
 unconditionalConnected Transfer =  -- D23  3.5.2.5.5.1 b; 01, "in WAIT-ANSWER too"
     turns CalledPays AsHeld ChargeCalled SendAnm Nothing Nothing (Absent 0) noPart
 
--- case B asked for by the caller. calling: the calling number is there
+-- case B asked for by the caller. Judged: the check of 3.5.2.2.5.1 i, then interaction. calling: the calling number is there
 abbrev pub activeAsked : Judged → Mode → Bool → Plan
 activeAsked NotSubscribed mode calling =  -- D26  3.5.2.2.5.2, first sentence
     farError Stay userNotSubscribed
@@ -271,7 +279,7 @@ activeAsked Passed NoTransfer calling =  -- D28  3.5.2.2.5.1 ii
 activeAsked Passed Transfer calling =  -- D29  3.5.2.2.5.1 iii; 01, "the calling number with an invoke SETUP or ACTIVE"
     needs calling (acts ToWaitActiveConfTransfer Keep CallingNumber AccessAsk Nothing Nothing)
 
--- case B or C asked for by the own user
+-- case B or C asked for by the own user. Judged: the check of 3.5.2.3.5.1 i, 3.5.2.4.5.1 i, then interaction
 abbrev pub askCalled : Judged → Extent → Mode → Plan
 askCalled NotSubscribed extent mode =  -- D30  3.5.2.3.5.2 i, 3.5.2.4.5.2 i
     accessError Stay userNotSubscribed
@@ -338,9 +346,9 @@ planOf AskActive t = askActive (t .interaction) (t .mode)  -- O20 to O22
 planOf CalledAsked t = calledAsked (t .interaction) (t .extent) (t .taken) (t .called)  -- O23 to O27
 planOf ActiveAccepted t = acceptedInCall (t .accepted)  -- O28, O29
 planOf WaitError t = waitError (t .correct) (t .error)  -- O30, O31, D48, D49
--- O32, O33  3.5.2.2.1.2 ii, iii; D50, D51  3.5.2.3.5.2, 3.5.2.4.5.2 b, c
+-- O32, O33  3.5.2.2.1.2 ii, iii; D50, D51  3.5.2.3.5.2 b, c, 3.5.2.4.5.2 b, c
 planOf WaitFailed t = accessError ToAnswered notAvailable
--- O34  3.5.2.2.1.2, a Release Message; D52  3.5.2.3.5.2, 3.5.2.4.5.2, a Release Message
+-- O34  3.5.2.2.1.2, a Release Message; D52  3.5.2.3.5.2, a Release Message, 3.5.2.4.5.2, a Release Message
 planOf WaitReleased t = accessRelease Stop basicServiceNotProvided (t .cause)
 planOf PlainIam t = plainIam (t .service) (t .interaction) (t .mode)  -- D1 to D4
 planOf SetupAsked t = setupAsked (t .judged) (t .taken) (t .calling)  -- D5 to D8

@@ -1,4 +1,4 @@
--- 01, "Calls to try": the histories marked P, as theorems about the definition. Each computes.
+-- 01, "Calls to try": the histories marked P, as theorems about the definition; and calls that only a host hands in. Each computes.
 -- Assumes nothing.
 use Prim.Native.Nat.{ℕ, _+_}
 use mathlib.Core.Bool.{true, false}

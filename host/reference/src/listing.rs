@@ -209,10 +209,10 @@ mod tests {
         assert_eq!(text(&file, ROOM).as_deref(), Some(shown));
     }
 
-    /// All cases of both files: `## name`, one record a line in hex, `=`, and the listing up to an empty line.
+    /// All cases of these files: `## name`, one record a line in hex, `=`, and the listing up to an empty line.
     #[test]
     fn cases() {
-        for file in ["cases.txt", "framing.txt"] {
+        for file in ["cases.txt", "framing.txt", "rows.txt"] {
             let path = format!("{}/../../tests/{file}", env!("CARGO_MANIFEST_DIR"));
             let cases = std::fs::read_to_string(&path).unwrap_or_else(|error| panic!("{path}: {error}"));
             let mut count = 0;
