@@ -30,7 +30,8 @@ by-first (suc j) k (suc m) n e h =
     let o = one-le-pow j 10 (omega arith) in
     ap (λ (t : List ℕ). t ++ (digitOf n ∷ [])) (sym (no-lt n 10 _ [] _ (omega arith) refl) ∙ by-first j k m (n / 10) (omega arith) (omega arith))
     ∙ append-assoc (decimalBy k (n / 10 / 10 ^ j)) (lastDigits j (n / 10)) (digitOf n ∷ [])
-    ∙ ap (λ (x : ℕ). decimalBy k x ++ (lastDigits j (n / 10) ++ (digitOf n ∷ []))) (div-div-eq-div-mul n 10 (10 ^ j) ∙ ap (λ (x : ℕ). n / x) (sym (pow-succ' 10 j)))
+    ∙ ap (λ (x : ℕ). decimalBy k x ++ (lastDigits j (n / 10) ++ (digitOf n ∷ [])))
+    (div-div-eq-div-mul n 10 (10 ^ j) ∙ ap (λ (x : ℕ). n / x) (sym (pow-succ' 10 j)))
 
 -- a value that `decimal` has room for, and one whose first digits, suc d at most, it has room for
 module _ (a b : List ℕ) (i j n : ℕ) where
@@ -38,8 +39,10 @@ module _ (a b : List ℕ) (i j n : ℕ) where
   unfolding decimal valueText
   put-short h p = put-as (by-room 9 19 n (omega arith) h) p
 
-  pub put-long : (d k : ℕ) → (d ≤ 9) × (d + k ≤ 19) × (10 ^ k ≤ n) × (n / 10 ^ k < 10 ^ suc d) → Put a i (decimal (n / 10 ^ k) ++ lastDigits k n) b j → Put a i (valueText n) b j
+  pub put-long : (d k : ℕ) → (d ≤ 9) × (d + k ≤ 19) × (10 ^ k ≤ n) × (n / 10 ^ k < 10 ^ suc d) → Put a i (decimal (n / 10 ^ k) ++ lastDigits k n) b j
+      → Put a i (valueText n) b j
   unfolding decimal valueText
   put-long d k (f, g, h, l) p =
       let x = n / 10 ^ k in
-      put-as (ap (λ (t : List ℕ). t ++ lastDigits k n) (sym (by-room d 9 x f l) ∙ by-room d (19 - k) x (omega arith) l) ∙ sym (by-first k (suc (19 - k)) 20 n (omega arith) h)) p
+      let e = sym (by-room d 9 x f l) ∙ by-room d (19 - k) x (omega arith) l in
+      put-as (ap (λ (t : List ℕ). t ++ lastDigits k n) e ∙ sym (by-first k (suc (19 - k)) 20 n (omega arith) h)) p

@@ -10,12 +10,16 @@ use Rattle.text.specs.Choose.{ifLt, ifLe, ifEq, ifSo}
 use Rattle.text.specs.Text.{ascii, lastDigits, decimal, decimalBy, numbered}
 use Rattle.files.specs.Bodies.{openingAt, askAt, componentOf, numberIf, durationIf, messageAt, accessAt, eventAt, readAt}
 use Rattle.files.specs.Bytes.{le2At, le4At, le8At, numberAt}
+use Rattle.files.specs.Dump.{stopText, placeText, placesText, dumpOf}
 use Rattle.files.specs.Frames.{lengthOf, frameOf, frameAt}
 use Rattle.files.specs.Lines.{standText, metersText, lineText, numberedLine, actionsText, recordText}
 use Rattle.files.specs.Listing.{answerOf, restOf, recordsOf, listingOf}
 use Rattle.files.specs.Messages.{operationText, withOperation, textIf, withDigits, partsText, valuesText, carriedText, sentText}
 use Rattle.files.specs.Messages.{releasedText}
 use Rattle.files.specs.Places.{placeAfter, placesFrom, placesOf}
+use Rattle.files.specs.Words.{codeWord, digitsWord, valueText, countedWord, numberWord, roleWord, commaText, flagText, flagsText}
+use Rattle.files.specs.Words.{flagsWord, openingWords, askedWord, askWords, nameWord, operationWord, withOperationWord, unlessZero}
+use Rattle.files.specs.Words.{rejectWords, unknownWords, withNumber, valuesWords, messageWords, toldWord, accessWords}
 use Rattle.files.specs.declared.Read.{Read}
 
 -- 01, case L
@@ -68,3 +72,30 @@ worked :
     ++ ascii "END 7\n")
 unfolding case-l listingOf recordsOf restOf answerOf placesOf placesFrom placeAfter recordText actionsText releasedText sentText carriedText numberedLine lineText metersText standText valuesText partsText withDigits textIf withOperation operationText readAt eventAt accessAt messageAt durationIf numberIf componentOf askAt openingAt frameAt frameOf lengthOf numberAt le8At le4At le2At numbered decimal decimalBy lastDigits ifLt ifLe ifEq ifSo
 worked = (refl, refl, refl, refl, refl, refl, refl, refl, refl, refl)
+
+-- a message with every field out of its range, and a byte more
+case-odd : List ℕ
+case-odd =
+    29 ∷ 0 ∷ 3 ∷ 0 ∷ 9 ∷ 200 ∷ 254 ∷ 253 ∷ 255 ∷
+    -- count 0, value 1
+    0 ∷ 1 ∷ 0 ∷ 0 ∷ 0 ∷ 0 ∷ 0 ∷ 0 ∷ 0 ∷
+    -- count 20, value 5
+    20 ∷ 5 ∷ 0 ∷ 0 ∷ 0 ∷ 0 ∷ 0 ∷ 0 ∷ 0 ∷
+    255 ∷ 255 ∷ 255 ∷ 255 ∷ 7 ∷ []
+
+dumped :
+    (dumpOf case-l
+    ≡ ascii "RECORDS 7\n"
+    ++ ascii "1 0 OPENING originating interaction 5550100\n"
+    ++ ascii "2 15 REQUEST A 5550123\n"
+    ++ ascii "3 29 TIME 8\n"
+    ++ ascii "4 37 ANM 0 RESULT SETUP\n"
+    ++ ascii "5 46 TIME 60\n"
+    ++ ascii "6 54 REQUEST B -\n"
+    ++ ascii "7 68 ACCESS CLEAR 0\n")
+    × (dumpOf case-odd
+    ≡ ascii "RECORDS 2\n"
+    ++ ascii "1 0 MESSAGE 9 200 COMPONENT 254 253 TRANSFER ACCEPTED AS-TRANSFER PARTIAL CALLING 0:1 CALLED 20:5 DURATION 4294967295 PART 128\n"
+    ++ ascii "2 31 CUT-SHORT\n")
+unfolding case-l case-odd dumpOf placesText placeText stopText placesOf placesFrom placeAfter numberedLine codeWord digitsWord valueText countedWord numberWord roleWord commaText flagText flagsText flagsWord openingWords askedWord askWords nameWord operationWord withOperationWord unlessZero rejectWords unknownWords withNumber valuesWords messageWords toldWord accessWords partsText withDigits textIf operationText readAt eventAt accessAt messageAt durationIf numberIf componentOf askAt openingAt frameAt frameOf lengthOf numberAt le8At le4At le2At numbered decimal decimalBy lastDigits ifLt ifLe ifEq ifSo
+dumped = (refl, refl)

@@ -1,5 +1,5 @@
--- What a record says, in words, for the dump. No two records say the same: each field has its word, or its number where it is out
--- of its range, and the words of one field are never those of the next (docs/FORMAT.md has the grammar).
+-- What a record says, in words, for the dump. Each field has its word, or its number where it is out of its range, so that all of them
+-- can be read off the line (docs/FORMAT.md has the grammar).
 -- Assumes nothing.
 use mathlib.Core.List.{List, [], _++_}
 use Prim.Native.Nat.{ℕ, _%_}
@@ -21,7 +21,7 @@ codeWord n = numbered (ascii " ") n
 
 -- ---- a telephone number
 
--- in range: its digits; none
+-- in range: its digits, or that there is none
 unfoldable pub digitsWord : Number → List ℕ
 digitsWord n = ifEq (n .count) 0 (ascii " -") (withDigits (ascii " ") n)
 
