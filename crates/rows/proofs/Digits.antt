@@ -78,7 +78,20 @@ held {n} {m} {u} {v} (another p q) d =
 -- ---- A row applied to both
 
 refused : (z : ℕ) {c d : Call} → Renumbered c d → SameAnswer (refusedOf z c) (refusedOf z d)
-refused z y = record { number = refl; call = y; first = refl; second = refl; third = refl; fourth = refl }
+refused z y =
+    record {
+      number = refl;
+      call = y;
+      first = refl;
+      second = refl;
+      third = refl;
+      fourth = refl;
+      error = refl;
+      cause = refl;
+      component = refl;
+      parts = refl;
+      duration = refl;
+    }
 
 module _ (k : Kind) (i g pt er ca s : ℕ) (x : Component) where
   abbrev reading : Number → Number → Number → Reading
@@ -99,7 +112,19 @@ module _ (k : Kind) (i g pt er ca s : ℕ) (x : Component) where
     settles : (y : Metered) (p : Plan) →
         SameAnswer (settledOf y (holding r f at m u v w) p (reading n o q)) (settledOf y (holding r f at m u′ v′ w′) p (reading n′ o′ q′))
     settles (Done after) p =
-        record { number = refl; call = registered (p .register) _ after; first = refl; second = refl; third = refl; fourth = refl }
+        record {
+          number = refl;
+          call = registered (p .register) _ after;
+          first = refl;
+          second = refl;
+          third = refl;
+          fourth = refl;
+          error = refl;
+          cause = refl;
+          component = refl;
+          parts = refl;
+          duration = refl;
+        }
     settles NoPayer p = refused 10 (renumbered a b c)
     settles TooMuch p = refused 2 (renumbered a b c)
 

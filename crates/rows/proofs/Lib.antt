@@ -1,5 +1,6 @@
 pub mod Answers
 pub mod Below
+pub mod Clearing
 pub mod Contracts
 pub mod Destination
 pub mod Digits

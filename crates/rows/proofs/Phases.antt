@@ -6,11 +6,15 @@ use Prim.Native.Nat.{ℕ, _≤_}
 use native.Mathlib.Omega.{arith}
 use lib.Dec.{eqb, leb}
 use borrow.Author.Tests.{leb-true}
-use Rattle.rows.specs.Bill.{isAnswered}
-use Rattle.rows.specs.Find.{when, destinationSetupOf, rowForOf}
+use Rattle.rows.specs.Bill.{isAnswered, isRev, resultTo}
+use Rattle.rows.specs.Find.{when, originatingSetupOf, destinationSetupOf, rowForOf}
 use Rattle.rows.specs.Perform.{standOf}
-use Rattle.rows.specs.Promises.{placeIn, isOpening, isMessage, isWord, answersAt, Answering}
-use Rattle.rows.specs.Read.{kindBy, readOf, cueOf, termsOf}
+use Rattle.rows.specs.Promises.{placeIn, isOpening, isWord, bare, answerWith, answersAt, Answering, runs}
+use Rattle.rows.specs.declared.Component.{Component}
+use Rattle.rows.specs.declared.Component.the-variants.{Absent, Invoke, Result, Error, Reject, Unknown}
+use Rattle.rows.specs.declared.Cue.{Cue}
+use Rattle.rows.specs.declared.Message.{Message}
+use Rattle.rows.specs.Read.{kindBy, heardOf, readOf, cueOf, termsOf}
 use Rattle.rows.specs.Rows
 use Rattle.rows.specs.Rows.{planOf}
 use Rattle.rows.specs.Step.{stepOf}
@@ -98,13 +102,38 @@ opens (FromAccess a n) = refl
 opens Expiry = refl
 opens (Time s) = refl
 
-answers : (e : Event) → isAnswer (readOf e .kind) ≡ true → (isMessage 2 e || isMessage 3 e) ≡ true
-answers (Opening r f n) h = h
-answers (Ask q n) h = h
-answers (Received m) h = anm-or-con (eqb (m .kind) 1) (eqb (m .kind) 2 || eqb (m .kind) 3) (eqb (m .kind) 4) h
-answers (FromAccess a n) h = h
-answers Expiry h = h
-answers (Time s) h = h
+-- an answer's kind
+is-answer : (k : Kind) → isAnswer k ≡ true → k ≡ Answer
+is-answer Opens h = cc
+is-answer Asks h = cc
+is-answer Iam h = cc
+is-answer Answer h = refl
+is-answer Rel h = cc
+is-answer Fac h = cc
+is-answer Tells h = cc
+is-answer Expires h = cc
+is-answer Passes h = cc
+
+-- what a component says
+alone-bare : (x : Component) → heardOf x .alone ≡ true → bare x ≡ true
+alone-bare (Absent n) h = refl
+alone-bare (Invoke n) h = h
+alone-bare (Result n) h = h
+alone-bare (Error n) h = h
+alone-bare (Reject n) h = h
+alone-bare (Unknown c n) h = h
+
+result-setup : (x : Component) → heardOf x .resultsetup ≡ true → resultTo 1 x ≡ true
+result-setup (Absent n) h = h
+result-setup (Invoke n) h = h
+result-setup (Result n) h = h
+result-setup (Error n) h = h
+result-setup (Reject n) h = h
+result-setup (Unknown c n) h = h
+
+both : (a b : Bool) → a ≡ true → b ≡ true → (a && b) ≡ true
+both true b h k = k
+both false b h k = h
 
 -- ---- NONE, NULL, SETUP, ANSWERED, CLEARED
 
@@ -217,12 +246,37 @@ module _ (t : Terms) (a b : Bool) where
   refused Correct x y = refl
   refused Incorrect x y = refl
 
+  -- a message as the tables see it, with another kind
+  abbrev asKind : Message → Kind → Cue
+  asKind m k =
+      record {
+        kind = k;
+        asked = cueOf (readOf (Received m)) .asked;
+        heard = heardOf (m .component);
+        told = cueOf (readOf (Received m)) .told;
+      }
+
+  -- an ANM or CON with such a component, where no other event leads there
+  by-anm : (f : Component → Bool) (s : RevState) →
+      ((m : Message) → leads s (originatingSetupOf s (asKind m Answer)) ≡ true → f (m .component) ≡ true) →
+      (e : Event) → isAnswer (readOf e .kind) ≡ true → leads s (originatingSetupOf s (cueOf (readOf e))) ≡ true → answerWith f e ≡ true
+  by-anm f s g (Opening r x n) h l = h
+  by-anm f s g (Ask q n) h l = h
+  by-anm f s g (Received m) h l =
+      both _ _ (anm-or-con (eqb (m .kind) 1) (eqb (m .kind) 2 || eqb (m .kind) 3) (eqb (m .kind) 4) h)
+      (g m (subst (λ (k : Kind). leads s (originatingSetupOf s (asKind m k)) ≡ true) (is-answer _ h) l))
+  by-anm f s g (FromAccess a n) h l = h
+  by-anm f s g Expiry h l = h
+  by-anm f s g (Time x) h l = h
+
   by-answer : (r : Role) (s : RevState) (e : Event) → awaited r s (readOf e .kind) ≡ true →
       leads s (rowForOf r Setup s (cueOf (readOf e))) ≡ true → answersAt r s e ≡ true
-  by-answer Originating Idle e h l = answers e h
-  by-answer Originating WaitSetup e h l = answers e h
+  by-answer Originating Idle e h l = by-anm bare Idle (λ m k. alone-bare (m .component) (only (leads Idle) _ _ _ refl k)) e h l
+  by-answer Originating WaitSetup e h l =
+      by-anm (resultTo 1) WaitSetup
+      (λ m k. result-setup (m .component) (only (leads WaitSetup) _ _ _ (neither (leads WaitSetup) (heardOf (m .component) .alone) _ _ refl refl) k)) e h l
   by-answer Originating WaitActive e h l = h
-  by-answer Originating WaitAnswer e h l = answers e h
+  by-answer Originating WaitAnswer e h l = by-anm bare WaitAnswer (λ m k. alone-bare (m .component) (only (leads WaitAnswer) _ _ _ refl k)) e h l
   by-answer Originating Active e h l = h
   by-answer Originating WaitSetupConf e h l = h
   by-answer Originating WaitActiveConf e h l = h
@@ -271,3 +325,16 @@ answered-entered c e h =
           (planOf (rowForOf (c .side .role) x (c .stand .rev) (cueOf (readOf e))) (termsOf (c .side .flags) (c .stand) (readOf e)))) ≡ true)
           p l);
     })
+
+-- ---- ACTIVE is left by clearing alone
+
+abbrev runsOn : Test
+runsOn r now k p =
+    implies (eqb (p .number) 0) (implies (runs now) (implies (isAnswered (after now p)) (isRev Active (standOf (p .next) now .rev))))
+
+pub active-stays : (c : Call) (e : Event) → runs (c .stand) ≡ true → isAnswered (stepOf c e .call .stand .phase) ≡ true →
+    isRev Active (stepOf c e .call .stand .rev) ≡ true
+active-stays c e h =
+    stepped (λ (o : Outcome). isAnswered (o .call .stand .phase) ≡ true → isRev Active (o .call .stand .rev) ≡ true) c e
+    (λ v l. right (isAnswered (c .stand .phase)) _ h) (λ n v p q l. right (isAnswered (c .stand .phase)) _ h)
+    (λ n d l. so _ _ (so _ _ (so _ _ (holds runsOn (λ e t a b. refl) c e) (d .row)) h) l)

@@ -51,7 +51,7 @@ use Rattle.rows.proofs.Truth.{differ, left, right, either}
 
 -- ---- What 9 leaves of a call: its place in the table, its sum, and at a destination no caller's seconds
 
-valid-place : (c : Call) → validOf c ≡ true → placedOf (c .side .role) (c .stand .phase) (c .stand .rev) ≡ true
+pub valid-place : (c : Call) → validOf c ≡ true → placedOf (c .side .role) (c .stand .phase) (c .stand .rev) ≡ true
 valid-place c v = left _ _ v
 
 valid-metered : (c : Call) → validOf c ≡ true → meteredOf (c .side .role) (c .stand .phase) (c .meters) ≡ true
@@ -74,7 +74,7 @@ counts c s p l =
     gives-fit (λ (x : Metered). settledOf x c (Rows.quiet Stay TimePasses AsHeld) (readOf (Time s)) .number ≡ 0) (c .meters .payer) (c .meters) s p l (λ n. refl)
 
 -- a call at an exchange, in a phase and REV state
-abbrev standing : Role → Flags → Phase → RevState → Bool → Bool → Meters → Number → Number → Number → Call
+abbrev pub standing : Role → Flags → Phase → RevState → Bool → Bool → Meters → Number → Number → Number → Call
 standing r f ph rv a b m u v w = holding r f (record { phase = ph; rev = rv; agreed = a; rest = b }) m u v w
 
 module _ (f : Flags) (a b : Bool) (m : Meters) (u v w : Number) (s : ℕ) (p : m .payer ≡ Nobody → ⊥) (l : totalOf m + s ≤ limit) where

@@ -1,6 +1,7 @@
 -- THE THEOREMS about the rows, each with its sentence, to be read alone. What they speak of is defined in specs/: Step.antt (`stepOf`,
 -- the answer to an event), Valid.antt (`validOf`, what is a call; `eventOk`, fields in range), History.antt (`run`, `history`: any list
--- of events, refused ones among them), Bill.antt (demand 3) and Promises.antt (the rest). The files cited prove them.
+-- of events, refused ones among them), Bill.antt (demand 3) and Promises.antt (the rest); `Shows` and `Told`, the records that say what the
+-- meters show of a bill, stand in Whole.antt and Opened.antt. The files cited prove them.
 -- docs/STATEMENTS.md names a wrong program that each rules out.
 -- Assumes nothing.
 use mathlib.Core.Path.{_≡_, refl}
@@ -8,24 +9,28 @@ use mathlib.Core.Bool.{Bool, true, false, not}
 use mathlib.Core.List.{List, _++_}
 use Prim.Native.Nat.{ℕ, _+_, _≤_}
 use lib.Dec.{eqb}
-use Rattle.meters.specs.Meters.{limit, totalOf}
+use Rattle.meters.specs.Meters.{totalOf}
 use Rattle.meters.specs.declared.Payer.the-variants.{Nobody}
-use Rattle.rows.specs.Bill.{isAnswered, answered, Case, plain, marks, took, reversal, payer, bill, line}
+use Rattle.rows.specs.Bill.{isAnswered, isRev, answered, Case, plain, marks, took, reversal, payer, bill, line}
 use Rattle.rows.specs.History.{run, history, opening}
 use Rattle.rows.specs.Perform.{refusedOf}
-use Rattle.rows.specs.Promises.{NothingDone, noneIs, unpaid, Answering, placeIn, isOpening, openingThere, secondsThere, noDuration}
+use Rattle.rows.specs.Promises.{NothingDone, noneIs, unpaid, Answering, runs, inCall, Clears, chargedBy, placeIn, isOpening}
+use Rattle.rows.specs.Promises.{openingThere, secondsThere, noDuration}
 use Rattle.rows.specs.Promises.{reversals, Extends, Redialled, AllRedialled, Renumbered, SameAnswer, numbers, takesEffect, InEffect}
 use Rattle.rows.specs.Step.{unopenedCall, stepOf}
 use Rattle.rows.specs.Valid.{validOf, eventOk}
 use Rattle.rows.specs.declared.Call.{Call}
 use Rattle.rows.specs.declared.Event.{Event}
-use Rattle.rows.specs.declared.Event.the-variants.{Time}
+use Rattle.rows.specs.declared.Event.the-variants.{Opening, Received, FromAccess, Time}
+use Rattle.rows.specs.declared.Message.{Message}
 use Rattle.rows.specs.declared.Number.{Number}
 use Rattle.rows.specs.declared.Phase.the-variants.{Answered, Cleared}
+use Rattle.rows.specs.declared.RevState.the-variants.{Active}
+use Rattle.rows.proofs.Clearing
 use Rattle.rows.proofs.Destination
 use Rattle.rows.proofs.Digits
 use Rattle.rows.proofs.Opened
-use Rattle.rows.proofs.Opened.{Told}
+use Rattle.rows.proofs.Opened.{Told, early, oneOrThree}
 use Rattle.rows.proofs.Payers
 use Rattle.rows.proofs.Phases
 use Rattle.rows.proofs.Progress
@@ -53,9 +58,13 @@ call-stays = Stays.call-stays
 pub nine-exactly : (c : Call) (e : Event) → eqb (stepOf c e .number) 9 ≡ not (validOf c)
 nine-exactly = Stays.nine-exactly
 
--- .. so no history from before the opening meets it.
-pub never-nine : (es : List Event) → noneIs 9 (history unopenedCall es) ≡ true
-never-nine = Stays.never-nine-from-unopened
+-- .. so no history of a call meets it ..
+pub never-nine : (c : Call) (es : List Event) → validOf c ≡ true → noneIs 9 (history c es) ≡ true
+never-nine = Stays.never-nine
+
+-- .. and the call before its opening is one.
+pub unopened-valid : validOf unopenedCall ≡ true
+unopened-valid = refl
 
 -- No step leads to ANSWERED with nobody as payer, unless the call stood so ..
 pub paid-stays : (c : Call) (e : Event) → unpaid c ≡ false → unpaid (stepOf c e .call) ≡ false
@@ -81,6 +90,11 @@ answered-left = Phases.answered-left
 pub cleared-stays : (c : Call) (e : Event) → isOpening e ≡ false → c .stand .phase ≡ Cleared → stepOf c e .call .stand .phase ≡ Cleared
 cleared-stays = Phases.cleared-stays
 
+-- ACTIVE is left by clearing alone: a step from it that stays in ANSWERED stays in ACTIVE.
+pub active-stays : (c : Call) (e : Event) → runs (c .stand) ≡ true → isAnswered (stepOf c e .call .stand .phase) ≡ true →
+    isRev Active (stepOf c e .call .stand .rev) ≡ true
+active-stays = Phases.active-stays
+
 -- NONE, NULL, SETUP, ANSWERED, CLEARED: no event but an opening leads back.
 pub never-back : (c : Call) (e : Event) → isOpening e ≡ false → placeIn (c .stand .phase) ≤ placeIn (stepOf c e .call .stand .phase)
 never-back = Phases.never-falls
@@ -89,12 +103,22 @@ never-back = Phases.never-falls
 
 -- In ANSWERED, where somebody pays, a time in range that keeps the sum within the limit is accepted.
 pub time-accepted : (c : Call) (s : ℕ) → validOf c ≡ true → c .stand .phase ≡ Answered → (c .meters .payer ≡ Nobody → ⊥) → s ≤ 86400 →
-    totalOf (c .meters) + s ≤ limit → stepOf c (Time s) .number ≡ 0
+    totalOf (c .meters) + s ≤ 31536000 → stepOf c (Time s) .number ≡ 0
 time-accepted = Progress.time-accepted
 
 -- Each row that leads to ACTIVE does so wherever its needed parts are there and no limit is passed (`takesEffect`: the table of them).
 pub reversal-takes-effect : (c : Call) (e : Event) → validOf c ≡ true → eventOk e ≡ true → takesEffect c e ≡ true → InEffect (stepOf c e)
 reversal-takes-effect = Progress.reversal-takes-effect
+
+-- A clearing clears: in SETUP and ANSWERED a REL (message 4) with any component ..
+pub rel-clears : (c : Call) (m : Message) → validOf c ≡ true → eventOk (Received m) ≡ true → inCall (c .stand .phase) ≡ true →
+    eqb (m .kind) 4 ≡ true → Clears (stepOf c (Received m))
+rel-clears = Clearing.rel-clears
+
+-- .. and the own access's clearing (4).
+pub access-clears : (c : Call) (n : ℕ) → validOf c ≡ true → eventOk (FromAccess 4 n) ≡ true → inCall (c .stand .phase) ≡ true →
+    Clears (stepOf c (FromAccess 4 n))
+access-clears = Clearing.access-clears
 
 -- ---- Demand 3: who pays each answered second of an originating call
 
@@ -104,9 +128,16 @@ pub billed : (f : ℕ) (own : Number) → opening f own .number ≡ 0 → (es : 
     Shows (run (opening f own .call) es) f (history (opening f own .call) es)
 billed = Whole.billed
 
--- The same from before the opening.
+-- Such an opening is one whose fields are in range: flags to 31, an own number.
+pub opens-in-range : (f : ℕ) (own : Number) → eventOk (Opening 0 f own) ≡ true → opening f own .number ≡ 0
+opens-in-range = Whole.opens-in-range
+
+-- The same from before the opening; what comes before it is refused with 1 or 3.
 pub line-billed : (es : List Event) → Told (run unopenedCall es) (line (history unopenedCall es))
 line-billed = Opened.line-billed
+
+pub early-refused : (es : List Event) → oneOrThree (early (history unopenedCall es)) ≡ true
+early-refused = Opened.early-refused
 
 -- Who pays now: in ANSWERED the payer who is charged is the one that the history names for the seconds to come.
 pub pays-now : (f : ℕ) (own : Number) → opening f own .number ≡ 0 → (es : List Event) →
@@ -152,10 +183,24 @@ pub destination-answered : (f : ℕ) (own : Number) → openingThere f own .numb
     ≡ answered (history (openingThere f own .call) es)
 destination-answered = Destination.destination-answered
 
+-- The caller's meter stays 0 there, and an opening in range is accepted.
+pub destination-caller : (f : ℕ) (own : Number) → openingThere f own .number ≡ 0 → (es : List Event) →
+    run (openingThere f own .call) es .meters .caller ≡ 0
+destination-caller = Destination.destination-caller
+
+pub opens-there-in-range : (f : ℕ) (own : Number) → eventOk (Opening 1 f own) ≡ true → openingThere f own .number ≡ 0
+opens-there-in-range = Destination.opens-there-in-range
+
+-- Where the own access's word puts reverse charging in effect, the called user is charged here if transfer was agreed, and else far, or
+-- whoever was charged in the answered call: never both exchanges.
+pub charged-there : (c : Call) (k n : ℕ) → validOf c ≡ true → eventOk (FromAccess k n) ≡ true → takesEffect c (FromAccess k n) ≡ true →
+    stepOf c (FromAccess k n) .call .meters .payer ≡ chargedBy (c .stand .agreed) (c .stand .phase) (c .meters .payer)
+charged-there = Clearing.charged-there
+
 -- ---- Digits decide nothing
 
--- Other telephone numbers, in range, in the call and in the event: the same number given back, the same actions, and the same call, its
--- state and its meters, but for digits ..
+-- Other telephone numbers, in range, in the call and in the event: the same number given back, the same actions but for digits, and the
+-- same call, its state and its meters, but for digits ..
 pub digits-decide-nothing : {c d : Call} {e e′ : Event} → Renumbered c d → Redialled e e′ → SameAnswer (stepOf c e) (stepOf d e′)
 digits-decide-nothing y z = Digits.step-alike y z
 

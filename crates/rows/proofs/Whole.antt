@@ -17,7 +17,8 @@ use Rattle.meters.specs.declared.Payer.{Payer}
 use Rattle.meters.specs.declared.Payer.the-variants.{Nobody, Caller, Called, Far}
 use Rattle.rows.specs.Bill.{pick, Step, accepted, isAnswered, secondsIn, counted, times, sum, answered, resultTo, invokeOf, Said}
 use Rattle.rows.specs.Bill.{saying, silence, said, Case, caseB, caseC, caseD, Mark, plain, second, reversed, requested, turnsSetup}
-use Rattle.rows.specs.Bill.{turnsAnswered, turns, inEffect, isRev, markBy, stillWaits, waitsBy, waits, marks, Took, nothing, took}
+use Rattle.rows.specs.Bill.{turnsAnswered, turns, inEffect, isRev, markBy, stillWaits, waitsIn, waitsBy, waits, marks, Took, nothing}
+use Rattle.rows.specs.Bill.{took}
 use Rattle.rows.specs.Bill.{reversal, turnedTo, covers, payer, payments, bill, allSeconds, same, owed}
 use Rattle.rows.specs.Find.{when, originatingNullOf, originatingSetupIdleOf, waitSetupOf, originatingWaitAnswerOf}
 use Rattle.rows.specs.Find.{originatingAnsweredIdleOf, waitActiveOf, activeOf}
@@ -588,9 +589,16 @@ waiting-still s WaitSetupConf i = still
 waiting-still s WaitActiveConf i = still
 waiting-still s WaitCalled i = still
 
+waits-in-still : (s : Said) {d : Mark} (ph : Phase) (rv : RevState) → Still d → Still (waitsIn s d ph rv)
+waits-in-still s Unopened rv i = still
+waits-in-still s Null rv i = still
+waits-in-still s Setup rv i = waiting-still s rv i
+waits-in-still s Answered rv i = still
+waits-in-still s Cleared rv i = still
+
 waits-still : (f : ℕ) {d : Mark} (s : Step) → Still d → Still (waits f d s)
 waits-still f s i =
-    pick-still (accepted s) (pick-still (isRev WaitAnswer (s .revAfter)) (waiting-still (said f (s .event)) (s .rev) i) still) i
+    pick-still (accepted s) (pick-still (isRev WaitAnswer (s .revAfter)) (waits-in-still (said f (s .event)) (s .phase) (s .rev) i) still) i
 
 pays-none : (w : Took) {m : Mark} (ms : List Mark) (l : List ℕ) → ((b : Bool) → allSeconds (payments w b ms) ≡ l) → Still m →
     (b : Bool) → allSeconds (payments w b (m ∷ ms)) ≡ l

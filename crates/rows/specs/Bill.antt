@@ -10,8 +10,8 @@
 -- meter, no payer, no total, no case that a call holds. It takes nothing from the definitions of the rows, and reads the numbers
 -- of an event by tests of its own.
 --
--- It asks the history for one reversal at most, the first, and does not look for a second call in it: a call that is in ACTIVE
--- stays there until it clears, and a cleared or opened call refuses an opening. Demand 2 says so, not this file.
+-- It asks the history for one reversal at most, the first, and does not look for a second call in it: a reversal takes effect once at
+-- most (`one-reversal`), and a cleared or opened call refuses an opening, which demand 2 says and not this file.
 -- Assumes nothing.
 use Prim.Native.Nat.{ℕ, _+_, _/_, _%_}
 use mathlib.Core.Bool.{Bool, true, false, _&&_}
@@ -234,9 +234,17 @@ stillWaits w d WaitSetupConf = plain
 stillWaits w d WaitActiveConf = plain
 stillWaits w d WaitCalled = plain
 
+-- in SETUP alone
+abbrev pub waitsIn : Said → Mark → Phase → RevState → Mark
+waitsIn w d Unopened r = plain
+waitsIn w d Null r = plain
+waitsIn w d Setup r = stillWaits w d r
+waitsIn w d Answered r = plain
+waitsIn w d Cleared r = plain
+
 -- a refused event leaves it as it is
 abbrev pub waitsBy : Said → Mark → Step → Mark
-waitsBy w d s = pick (accepted s) (pick (isRev WaitAnswer (s .revAfter)) (stillWaits w d (s .rev)) plain) d
+waitsBy w d s = pick (accepted s) (pick (isRev WaitAnswer (s .revAfter)) (waitsIn w d (s .phase) (s .rev)) plain) d
 
 abbrev pub mark : ℕ → Mark → Step → Mark
 mark f d s = markBy (said f (s .event)) d s

@@ -1,15 +1,15 @@
 -- WHAT IS PROMISED of every call and every history, beside the answer to each event (Step.antt) and the bill (Bill.antt): the words
 -- that the theorems use. proofs/Theorems.antt states them, each with its sentence. They read events and steps by tests of their own,
--- as Bill.antt does, and take nothing from the rows.
+-- as Bill.antt does, and take no reading, table, row or plan from the rows.
 -- Assumes nothing.
 use Prim.Native.Nat.{ℕ, _+_}
 use mathlib.Core.Bool.{Bool, true, false, _&&_, _||_, not}
 use mathlib.Core.List.{List, [], _∷_, _++_}
 use mathlib.Core.Path.{_≡_}
 use lib.Dec.{eqb, leb}
-use Rattle.meters.specs.Meters.{limit}
 use Rattle.meters.specs.declared.Meters.{Meters}
-use Rattle.meters.specs.declared.Payer.the-variants.{Nobody}
+use Rattle.meters.specs.declared.Payer.{Payer}
+use Rattle.meters.specs.declared.Payer.the-variants.{Nobody, Called, Far}
 use Rattle.rows.specs.Bill.{same, bitAt, lowestBit, resultTo, invokeOf, Case, Mark, plain, second, reversed, Paid, Step, pick}
 use Rattle.rows.specs.Bill.{accepted}
 use Rattle.rows.specs.Bill.{isAnswered, isRev, answered}
@@ -76,15 +76,6 @@ isOpening (FromAccess a n) = false
 isOpening Expiry = false
 isOpening (Time s) = false
 
--- 01, kind 3: this message from the other exchange
-abbrev pub isMessage : ℕ → Event → Bool
-isMessage k (Opening r f n) = false
-isMessage k (Ask q n) = false
-isMessage k (Received m) = eqb (m .kind) k
-isMessage k (FromAccess a n) = false
-isMessage k Expiry = false
-isMessage k (Time s) = false
-
 -- 01, kind 4: this word from the own access
 abbrev pub isWord : ℕ → Event → Bool
 isWord k (Opening r f n) = false
@@ -94,13 +85,34 @@ isWord k (FromAccess a n) = eqb a k
 isWord k Expiry = false
 isWord k (Time s) = false
 
--- The event that answers a call in SETUP, by role and REV state. At the originating exchange ANM (2) or CON (3) from the other one;
--- at the destination the own access: it accepts (1) where case A was put to it, else it answers without REV (5)
+abbrev pub bare : Component → Bool
+bare (Absent n) = true
+bare (Invoke n) = false
+bare (Result n) = false
+bare (Error n) = false
+bare (Reject n) = false
+bare (Unknown c n) = false
+
+abbrev pub isAnswer : Message → Bool
+isAnswer m = eqb (m .kind) 2 || eqb (m .kind) 3
+
+-- ANM (2) or CON (3) from the other exchange, with a component that passes this test
+abbrev pub answerWith : (Component → Bool) → Event → Bool
+answerWith f (Opening r g n) = false
+answerWith f (Ask q n) = false
+answerWith f (Received m) = isAnswer m && f (m .component)
+answerWith f (FromAccess a n) = false
+answerWith f Expiry = false
+answerWith f (Time s) = false
+
+-- The event that answers a call in SETUP, by role and REV state. At the originating exchange ANM or CON from the other one, with the
+-- result of case A (1) where that was asked for, else with no component; at the destination the own access: it accepts (1) where case A
+-- was put to it, else it answers without REV (5)
 abbrev pub answersAt : Role → RevState → Event → Bool
-answersAt Originating Idle e = isMessage 2 e || isMessage 3 e
-answersAt Originating WaitSetup e = isMessage 2 e || isMessage 3 e
+answersAt Originating Idle e = answerWith bare e
+answersAt Originating WaitSetup e = answerWith (resultTo 1) e
 answersAt Originating WaitActive e = false
-answersAt Originating WaitAnswer e = isMessage 2 e || isMessage 3 e
+answersAt Originating WaitAnswer e = answerWith bare e
 answersAt Originating Active e = false
 answersAt Originating WaitSetupConf e = false
 answersAt Originating WaitActiveConf e = false
@@ -122,6 +134,10 @@ pub record Answering (c : Call) (e : Event) (o : Outcome) : Type 0 where
   pub phase : c .stand .phase ≡ Setup
   -- and the event was the one that answers it there
   pub event : answersAt (c .side .role) (c .stand .rev) e ≡ true
+
+-- reverse charging is in effect
+abbrev pub runs : Stand → Bool
+runs s = isAnswered (s .phase) && isRev Active (s .rev)
 
 -- ---- The destination's seconds: proofs/Destination.antt
 --
@@ -248,7 +264,7 @@ pub data Renumbered : Call → Call → Type 0 where
   renumbered : {r : Role} {f : Flags} {at : Stand} {m : Meters} {u u′ v v′ w w′ : Number} →
       OtherDigits u u′ → OtherDigits v v′ → OtherDigits w w′ → Renumbered (holding r f at m u v w) (holding r f at m u′ v′ w′)
 
--- the same number given back, the same actions, and the same call but for digits
+-- the same number given back, the same actions but for digits, and the same call but for digits
 pub record SameAnswer (a b : Outcome) : Type 0 where
   pub number : a .number ≡ b .number
   pub call : Renumbered (a .call) (b .call)
@@ -256,6 +272,12 @@ pub record SameAnswer (a b : Outcome) : Type 0 where
   pub second : a .second ≡ b .second
   pub third : a .third ≡ b .third
   pub fourth : a .fourth ≡ b .fourth
+  -- and what they carry
+  pub error : a .note .error ≡ b .note .error
+  pub cause : a .note .cause ≡ b .note .cause
+  pub component : a .note .component ≡ b .note .component
+  pub parts : a .note .parts ≡ b .note .parts
+  pub duration : a .note .duration ≡ b .note .duration
 
 -- the numbers given back in a history
 abbrev pub numbers : List Step → List ℕ
@@ -265,19 +287,8 @@ numbers (s ∷ h) = s .number ∷ numbers h
 -- ---- What leads to ACTIVE: proofs/Progress.antt. The rows of docs/ROWS.md that do, by role, phase and REV state, each with the
 -- parts that it needs
 
-abbrev pub isAnswer : Message → Bool
-isAnswer m = eqb (m .kind) 2 || eqb (m .kind) 3
-
 abbrev pub isFacility : Message → Bool
 isFacility m = eqb (m .kind) 5
-
-abbrev pub bare : Component → Bool
-bare (Absent n) = true
-bare (Invoke n) = false
-bare (Result n) = false
-bare (Error n) = false
-bare (Reject n) = false
-bare (Unknown c n) = false
 
 -- originating, SETUP
 abbrev pub setupTurns : RevState → Message → Bool
@@ -310,7 +321,7 @@ answeredTurns WaitCalled f m = false
 abbrev pub acceptsFully : Flags → Bool → Message → Bool
 acceptsFully f rest m =
     not (f .transfer && (bitAt 2 (m .parts) && bitAt 4 (m .parts)))
-    || (bitAt 16 (m .parts) && (rest || (bitAt 64 (m .parts) && leb (m .duration) limit)))
+    || (bitAt 16 (m .parts) && (rest || (bitAt 64 (m .parts) && leb (m .duration) 31536000)))
 
 -- destination, ANSWERED
 abbrev pub calledTurns : RevState → Flags → Bool → Message → Bool
@@ -377,3 +388,31 @@ pub record InEffect (o : Outcome) : Type 0 where
   pub number : o .number ≡ 0
   pub phase : o .call .stand .phase ≡ Answered
   pub rev : o .call .stand .rev ≡ Active
+
+-- ---- A clearing clears, and who is charged at a destination: proofs/Clearing.antt
+
+-- SETUP and ANSWERED: there is a call to clear
+abbrev pub inCall : Phase → Bool
+inCall Unopened = false
+inCall Null = false
+inCall Setup = true
+inCall Answered = true
+inCall Cleared = false
+
+-- a row applied, and the call is cleared
+pub record Clears (o : Outcome) : Type 0 where
+  pub number : o .number ≡ 0
+  pub phase : o .call .stand .phase ≡ Cleared
+
+-- "far until this exchange charges": at the answer far begins, in the answered call the payer stays
+abbrev pub asBefore : Phase → Payer → Payer
+asBefore Unopened q = q
+asBefore Null q = q
+asBefore Setup q = Far
+asBefore Answered q = q
+asBefore Cleared q = q
+
+-- once reverse charging is in effect at a destination, by whether transfer was agreed: the called user, charged here; else as before
+abbrev pub chargedBy : Bool → Phase → Payer → Payer
+chargedBy true ph q = Called
+chargedBy false ph q = asBefore ph q

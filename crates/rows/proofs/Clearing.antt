@@ -1,0 +1,196 @@
+-- A CLEARING CLEARS, and who is charged at a destination once its own user's word puts reverse charging in effect.
+-- Assumes nothing.
+use mathlib.Core.Path.{_≡_, refl, sym, _∙_, ap, subst}
+use mathlib.Core.Bool.{Bool, true, false, _&&_}
+use Prim.Native.Nat.{ℕ}
+use lib.Dec.{eqb}
+use borrow.Author.Tests.{eqb-true}
+use Rattle.meters.specs.Meters.{changeOf}
+use Rattle.meters.specs.declared.Change.{Change}
+use Rattle.meters.specs.declared.Meters.{Meters}
+use Rattle.rows.specs.Perform.{standOf, settledOf, performIf, performOf}
+use Rattle.rows.specs.Promises.{placeIn, setupTold, answeredTold, accessTurns, takesEffect, inCall, Clears, chargedBy}
+use Rattle.rows.specs.Read.{kindOf, readOf}
+use Rattle.rows.specs.Step.{takesOf, stepOf}
+use Rattle.rows.specs.Valid.{placedOf, validOf, eventOk}
+use Rattle.rows.specs.declared.Call.{Call}
+use Rattle.rows.specs.declared.Event.{Event}
+use Rattle.rows.specs.declared.Event.the-variants.{Received, FromAccess}
+use Rattle.rows.specs.declared.Flags.{Flags}
+use Rattle.rows.specs.declared.Kind.{Kind}
+use Rattle.rows.specs.declared.Message.{Message}
+use Rattle.rows.specs.declared.Number.{Number}
+use Rattle.rows.specs.declared.Outcome.{Outcome}
+use Rattle.rows.specs.declared.Phase.{Phase}
+use Rattle.rows.specs.declared.Phase.the-variants.{Unopened, Null, Setup, Answered, Cleared}
+use Rattle.rows.specs.declared.Plan.{Plan}
+use Rattle.rows.specs.declared.Reading.{Reading}
+use Rattle.rows.specs.declared.RevState.{RevState}
+use Rattle.rows.specs.declared.RevState.the-variants.{Idle, WaitSetup, WaitActive, WaitAnswer, Active, WaitSetupConf}
+use Rattle.rows.specs.declared.RevState.the-variants.{WaitActiveConf, WaitCalled}
+use Rattle.rows.specs.declared.Role.{Role}
+use Rattle.rows.specs.declared.Role.the-variants.{Originating, Destination}
+use Rattle.rows.proofs.Answers.{planFor, row-decides}
+use Rattle.rows.proofs.Found.{implies, so, Test, holds}
+use Rattle.rows.proofs.Progress.{valid-place, standing}
+use Rattle.rows.proofs.Truth.{differ, left, right}
+
+-- ---- SETUP and ANSWERED: a REL with any component, or the own access's clearing, clears
+
+module _ (f : Flags) (a b : Bool) (mt : Meters) (u v w : Number) where
+  abbrev Over : Role → Phase → RevState → Event → Type 0
+  Over r ph rv e = Clears (takesOf (standing r f ph rv a b mt u v w) e)
+
+  cleared-here : (n : ℕ) (r : Role) (ph : Phase) (rv : RevState) → inCall ph ≡ true → placedOf r ph rv ≡ true → Over r ph rv (FromAccess 4 n)
+  cleared-here n r Unopened rv i h = differ i
+  cleared-here n r Null rv i h = differ i
+  cleared-here n r Cleared rv i h = differ i
+  cleared-here n Originating Setup Idle i h = record { number = refl; phase = refl }
+  cleared-here n Originating Setup WaitSetup i h = record { number = refl; phase = refl }
+  cleared-here n Originating Setup WaitActive i h = differ h
+  cleared-here n Originating Setup WaitAnswer i h = record { number = refl; phase = refl }
+  cleared-here n Originating Setup Active i h = differ h
+  cleared-here n Originating Setup WaitSetupConf i h = differ h
+  cleared-here n Originating Setup WaitActiveConf i h = differ h
+  cleared-here n Originating Setup WaitCalled i h = differ h
+  cleared-here n Destination Setup Idle i h = record { number = refl; phase = refl }
+  cleared-here n Destination Setup WaitSetup i h = differ h
+  cleared-here n Destination Setup WaitActive i h = differ h
+  cleared-here n Destination Setup WaitAnswer i h = record { number = refl; phase = refl }
+  cleared-here n Destination Setup Active i h = differ h
+  cleared-here n Destination Setup WaitSetupConf i h = record { number = refl; phase = refl }
+  cleared-here n Destination Setup WaitActiveConf i h = differ h
+  cleared-here n Destination Setup WaitCalled i h = record { number = refl; phase = refl }
+  cleared-here n Originating Answered Idle i h = record { number = refl; phase = refl }
+  cleared-here n Originating Answered WaitSetup i h = differ h
+  cleared-here n Originating Answered WaitActive i h = record { number = refl; phase = refl }
+  cleared-here n Originating Answered WaitAnswer i h = differ h
+  cleared-here n Originating Answered Active i h = record { number = refl; phase = refl }
+  cleared-here n Originating Answered WaitSetupConf i h = differ h
+  cleared-here n Originating Answered WaitActiveConf i h = differ h
+  cleared-here n Originating Answered WaitCalled i h = differ h
+  cleared-here n Destination Answered Idle i h = record { number = refl; phase = refl }
+  cleared-here n Destination Answered WaitSetup i h = differ h
+  cleared-here n Destination Answered WaitActive i h = differ h
+  cleared-here n Destination Answered WaitAnswer i h = differ h
+  cleared-here n Destination Answered Active i h = record { number = refl; phase = refl }
+  cleared-here n Destination Answered WaitSetupConf i h = differ h
+  cleared-here n Destination Answered WaitActiveConf i h = record { number = refl; phase = refl }
+  cleared-here n Destination Answered WaitCalled i h = record { number = refl; phase = refl }
+
+pub access-clears : (c : Call) (n : ℕ) → validOf c ≡ true → eventOk (FromAccess 4 n) ≡ true → inCall (c .stand .phase) ≡ true →
+    Clears (stepOf c (FromAccess 4 n))
+access-clears c n v k i =
+    subst Clears (sym (row-decides c (FromAccess 4 n) v k))
+    (cleared-here (c .side .flags) (c .stand .agreed) (c .stand .rest) (c .meters) (c .side .own) (c .side .calling) (c .side .called) n
+    (c .side .role) (c .stand .phase) (c .stand .rev) i (valid-place c v))
+
+abbrev isRel : Kind → Bool
+isRel Kind.Opens = false
+isRel Kind.Asks = false
+isRel Kind.Iam = false
+isRel Kind.Answer = false
+isRel Kind.Rel = true
+isRel Kind.Fac = false
+isRel Kind.Tells = false
+isRel Kind.Expires = false
+isRel Kind.Passes = false
+
+abbrev nobodys : Change → Bool
+nobodys Change.Keep = false
+nobodys Change.CallerPays = false
+nobodys Change.CalledPays = false
+nobodys Change.FarPays = false
+nobodys Change.NobodyPays = true
+nobodys Change.EntireToCalled = false
+nobodys Change.EntireToFar = false
+nobodys Change.TimePasses = false
+nobodys Change.DurationReceived = false
+
+abbrev endsAll : Test
+endsAll r now k p =
+    implies (placedOf r (now .phase) (now .rev)) (implies (inCall (now .phase)) (implies (isRel k)
+    (eqb (p .number) 0 && (eqb (placeIn (standOf (p .next) now .phase)) 4 && nobodys (p .change)))))
+
+top : (p : Phase) → eqb (placeIn p) 4 ≡ true → p ≡ Cleared
+top Unopened h = differ h
+top Null h = differ h
+top Setup h = differ h
+top Answered h = differ h
+top Cleared h = refl
+
+nobody-pays : (x : Change) → nobodys x ≡ true → x ≡ Change.NobodyPays
+nobody-pays Change.Keep h = differ h
+nobody-pays Change.CallerPays h = differ h
+nobody-pays Change.CalledPays h = differ h
+nobody-pays Change.FarPays h = differ h
+nobody-pays Change.NobodyPays h = refl
+nobody-pays Change.EntireToCalled h = differ h
+nobody-pays Change.EntireToFar h = differ h
+nobody-pays Change.TimePasses h = differ h
+nobody-pays Change.DurationReceived h = differ h
+
+ends : (c : Call) (p : Plan) (r : Reading) → eqb (p .number) 0 ≡ true → p .change ≡ Change.NobodyPays → standOf (p .next) (c .stand) .phase ≡ Cleared →
+    Clears (performOf c p r)
+ends c p r a b d =
+    subst (λ (x : Bool). Clears (performIf x c p r)) (sym a)
+    (subst (λ (x : Change). Clears (settledOf (changeOf x (c .meters) (r .seconds)) c p r)) (sym b) (record { number = refl; phase = d }))
+
+rel-kind : (k : ℕ) → eqb k 4 ≡ true → isRel (kindOf k) ≡ true
+rel-kind k h = subst (λ (j : ℕ). isRel (kindOf j) ≡ true) (sym (eqb-true k 4 h)) refl
+
+pub rel-clears : (c : Call) (m : Message) → validOf c ≡ true → eventOk (Received m) ≡ true → inCall (c .stand .phase) ≡ true →
+    eqb (m .kind) 4 ≡ true → Clears (stepOf c (Received m))
+rel-clears c m v k i h =
+    let z = so _ _ (so _ _ (so _ _ (holds endsAll (λ e t a b. refl) c (Received m)) (valid-place c v)) i) (rel-kind (m .kind) h) in
+    let y = right (eqb (planFor c (Received m) .number) 0) _ z in
+    subst Clears (sym (row-decides c (Received m) v k))
+    (ends c (planFor c (Received m)) (readOf (Received m)) (left _ _ z)
+    (nobody-pays _ (right (eqb (placeIn (standOf (planFor c (Received m) .next) (c .stand) .phase)) 4) _ y)) (top _ (left _ _ y)))
+
+-- ---- Who is charged at the destination
+
+module _ (f : Flags) (b : Bool) (mt : Meters) (u v w : Number) (n : ℕ) where
+  abbrev Charges : Phase → RevState → Bool → ℕ → Type 0
+  Charges ph rv a k =
+      takesOf (standing Destination f ph rv a b mt u v w) (FromAccess k n) .call .meters .payer ≡ chargedBy a ph (mt .payer)
+
+  setup-charges : (rv : RevState) (a : Bool) (k : ℕ) → setupTold rv k ≡ true → Charges Setup rv a k
+  setup-charges Idle a k h = differ h
+  setup-charges WaitSetup a k h = differ h
+  setup-charges WaitActive a k h = differ h
+  setup-charges WaitAnswer true k h = subst (Charges Setup WaitAnswer true) (sym (eqb-true k 5 h)) refl
+  setup-charges WaitAnswer false k h = subst (Charges Setup WaitAnswer false) (sym (eqb-true k 5 h)) refl
+  setup-charges Active a k h = differ h
+  setup-charges WaitSetupConf true k h = subst (Charges Setup WaitSetupConf true) (sym (eqb-true k 1 h)) refl
+  setup-charges WaitSetupConf false k h = subst (Charges Setup WaitSetupConf false) (sym (eqb-true k 1 h)) refl
+  setup-charges WaitActiveConf a k h = differ h
+  setup-charges WaitCalled a k h = differ h
+
+  answered-charges : (rv : RevState) (a : Bool) (k : ℕ) → answeredTold rv k ≡ true → Charges Answered rv a k
+  answered-charges Idle a k h = differ h
+  answered-charges WaitSetup a k h = differ h
+  answered-charges WaitActive a k h = differ h
+  answered-charges WaitAnswer a k h = differ h
+  answered-charges Active a k h = differ h
+  answered-charges WaitSetupConf a k h = differ h
+  answered-charges WaitActiveConf true k h = subst (Charges Answered WaitActiveConf true) (sym (eqb-true k 1 h)) refl
+  answered-charges WaitActiveConf false k h = subst (Charges Answered WaitActiveConf false) (sym (eqb-true k 1 h)) refl
+  answered-charges WaitCalled a k h = differ h
+
+  charges : (r : Role) (ph : Phase) (rv : RevState) (a : Bool) (k : ℕ) → accessTurns r ph rv k ≡ true →
+      takesOf (standing r f ph rv a b mt u v w) (FromAccess k n) .call .meters .payer ≡ chargedBy a ph (mt .payer)
+  charges r Unopened rv a k h = differ h
+  charges r Null rv a k h = differ h
+  charges Originating Setup rv a k h = differ h
+  charges Destination Setup rv a k h = setup-charges rv a k h
+  charges Originating Answered rv a k h = differ h
+  charges Destination Answered rv a k h = answered-charges rv a k h
+  charges r Cleared rv a k h = differ h
+
+pub charged-there : (c : Call) (k n : ℕ) → validOf c ≡ true → eventOk (FromAccess k n) ≡ true → takesEffect c (FromAccess k n) ≡ true →
+    stepOf c (FromAccess k n) .call .meters .payer ≡ chargedBy (c .stand .agreed) (c .stand .phase) (c .meters .payer)
+charged-there c k n v o h =
+    ap (λ (x : Outcome). x .call .meters .payer) (row-decides c (FromAccess k n) v o)
+    ∙ charges (c .side .flags) (c .stand .rest) (c .meters) (c .side .own) (c .side .calling) (c .side .called) n (c .side .role) (c .stand .phase)
+    (c .stand .rev) (c .stand .agreed) k h
