@@ -3,19 +3,9 @@
 # and read back, from the words alone, by host/reference: every byte of every record must be there. Needs cargo.
 set -eu
 cd "$(dirname "$0")/.."
-count=300 seed=1
-while [ $# -ge 2 ]; do
-    case $1 in
-    --count) count=$2 ;;
-    --seed) seed=$2 ;;
-    *) break ;;
-    esac
-    shift 2
-done
-if [ $# -ne 0 ]; then
-    echo "usage: dumps.sh [--count N] [--seed S]" >&2
-    exit 2
-fi
+who=dumps.sh count=300 seed=1
+# shellcheck source=tests/generated.inc
+. tests/generated.inc
 if ! command -v cargo >/dev/null; then
     echo "dumps: skipped, there is no cargo here"
     exit 0

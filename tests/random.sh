@@ -4,19 +4,9 @@
 # model's own tests. On a terminal a line tells how far it is. Needs a C compiler and cargo.
 set -eu
 cd "$(dirname "$0")/.."
-count=10000 seed=1
-while [ $# -ge 2 ]; do
-    case $1 in
-    --count) count=$2 ;;
-    --seed) seed=$2 ;;
-    *) break ;;
-    esac
-    shift 2
-done
-if [ $# -ne 0 ]; then
-    echo "usage: random.sh [--count N] [--seed S]" >&2
-    exit 2
-fi
+who=random.sh count=10000 seed=1
+# shellcheck source=tests/generated.inc
+. tests/generated.inc
 for tool in cc cargo; do
     if ! command -v $tool >/dev/null; then
         echo "random: skipped, there is no $tool here"
