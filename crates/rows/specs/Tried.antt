@@ -5,13 +5,15 @@ use mathlib.Core.Bool.{true, false}
 use mathlib.Core.List.{List, [], _∷_}
 use mathlib.Core.Path.{_≡_, refl}
 use Rattle.meters.specs.declared.Payer.{Payer}
-use Rattle.rows.specs.Numbers.{iam, anm, rel, fac, callingReqSetup, calledRequest, notAvailable, basicServiceNotProvided}
+use Rattle.rows.specs.Numbers.{iam, anm, rel, fac, callingReqSetup, callingReqActive, calledRequest, notAvailable}
+use Rattle.rows.specs.Numbers.{basicServiceNotProvided}
 use Rattle.rows.specs.Numbers.{alreadyRunning, normalClearing, facilityRejected, noPart, transferPart, partialPart, callingPart}
 use Rattle.rows.specs.Numbers.{calledPart, durationPart, agreedParts}
 use Rattle.rows.specs.Perform.{at}
 use Rattle.rows.specs.Read.{absent, flagsOf}
 use Rattle.rows.specs.Step.{unopenedCall, stepOf, Deed, does, tells, sends, deedsOf}
-use Rattle.rows.specs.declared.Act.the-variants.{NotifyAccepted, AccessError, AccessRel, ChargeCalling, ChargeCalled, Stop}
+use Rattle.rows.specs.declared.Act.the-variants.{NotifyAccepted, AccessSetup, AccessAsk, AccessError, AccessRel, ChargeCalling}
+use Rattle.rows.specs.declared.Act.the-variants.{ChargeCalled, Stop}
 use Rattle.rows.specs.declared.Call.{Call}
 use Rattle.rows.specs.declared.Component.{Component}
 use Rattle.rows.specs.declared.Component.the-variants.{Absent, Invoke, Result, Error}
@@ -23,7 +25,7 @@ use Rattle.rows.specs.declared.Outcome.{Outcome}
 use Rattle.rows.specs.declared.Phase.{Phase}
 use Rattle.rows.specs.declared.Phase.the-variants.{Null, Setup, Answered, Cleared}
 use Rattle.rows.specs.declared.RevState.{RevState}
-use Rattle.rows.specs.declared.RevState.the-variants.{Idle, WaitSetup, WaitActiveConf, WaitCalled, Active}
+use Rattle.rows.specs.declared.RevState.the-variants.{Idle, WaitSetup, WaitActive, WaitSetupConf, WaitActiveConf, WaitCalled, Active}
 use Rattle.rows.specs.declared.Role.{Role}
 
 -- a line of the listing, without its printing
@@ -99,6 +101,35 @@ listed-error = (refl, refl)
 
 unlisted-error : (refused-with 3 ≡ told notAvailable facilityRejected) × (refused-with 13 ≡ told notAvailable facilityRejected)
 unlisted-error = (refl, refl)
+
+-- the same in the answered call (O31, where case B was asked for), and from the own access at a destination (D13, D39)
+unlisted-in-call : run unopenedCall
+    (Opening 0 8 room ∷ Ask 0 room ∷ Received (plain anm 0 (Absent 0)) ∷ Ask 2 absent ∷ Received (plain fac 0 (Error 3)) ∷ [])
+    ≡ line 0 Null Idle 0 0 0 []
+    ∷ line 0 Setup Idle 0 0 0 (sends (plain iam 0 (Absent 0)) ∷ [])
+    ∷ line 0 Answered Idle 0 0 0 (does ChargeCalling ∷ [])
+    ∷ line 0 Answered WaitActive 0 0 0 (sends (plain fac 0 (Invoke callingReqActive)) ∷ [])
+    ∷ line 0 Answered Idle 0 0 0 (tells AccessError notAvailable ∷ [])
+    ∷ []
+unlisted-in-call = refl
+
+unlisted-at-setup : run unopenedCall (Opening 1 8 room ∷ Received (plain iam 0 (Invoke callingReqSetup)) ∷ FromAccess 2 13 ∷ [])
+    ≡ line 0 Null Idle 0 0 0 []
+    ∷ line 0 Setup WaitSetupConf 0 0 0 (does AccessAsk ∷ [])
+    ∷ line 0 Cleared Idle 0 0 0 (sends (plain rel facilityRejected (Error notAvailable)) ∷ [])
+    ∷ []
+unlisted-at-setup = refl
+
+unlisted-while-asked : run unopenedCall
+    (Opening 1 8 room ∷ Received (plain iam 0 (Absent 0)) ∷ FromAccess 5 0 ∷ Received (plain fac 0 (Invoke callingReqActive))
+    ∷ FromAccess 2 13 ∷ [])
+    ≡ line 0 Null Idle 0 0 0 []
+    ∷ line 0 Setup Idle 0 0 0 (does AccessSetup ∷ [])
+    ∷ line 0 Answered Idle 0 0 0 (sends (plain anm 0 (Absent 0)) ∷ [])
+    ∷ line 0 Answered WaitActiveConf 0 0 0 (does AccessAsk ∷ [])
+    ∷ line 0 Answered Idle 0 0 0 (sends (plain fac 0 (Error notAvailable)) ∷ [])
+    ∷ []
+unlisted-while-asked = refl
 
 -- an originating call with these flags, answered, 40 s paid by the caller; then an invoke from the called side with these parts; 20 s
 abbrev forty-twenty : ℕ → ℕ → Number → List Line
