@@ -29,7 +29,7 @@ use Rattle.rows.specs.declared.Plan.{Plan}
 use Rattle.rows.specs.declared.Reading.{Reading}
 use Rattle.rows.proofs.Answers.{planFor}
 use Rattle.rows.proofs.Found.{implies, so, Test, holds, guarded, stepped}
-use Rattle.rows.proofs.Truth.{differ, left, right}
+use Rattle.rows.proofs.Truth.{both, differ, left, right}
 
 -- ---- A change of the meters that names a payer; one that leaves the payer
 
@@ -171,9 +171,6 @@ pub paid-on : (c : Call) (es : List Event) → unpaid c ≡ false → unpaid (ru
 paid-on c [] u = u
 paid-on c (e ∷ es) u = paid-on (stepOf c e .call) es (paid-stays c e u)
 
-and-both : {a b : Bool} → a ≡ true → b ≡ true → (a && b) ≡ true
-and-both {a} {b} p q = ap (λ (x : Bool). x && b) p ∙ q
-
 pub never-ten : (c : Call) (es : List Event) → unpaid c ≡ false → noneIs 10 (history c es) ≡ true
 never-ten c [] u = refl
-never-ten c (e ∷ es) u = and-both (ap not (ten-for-the-unpaid c e u)) (never-ten (stepOf c e .call) es (paid-stays c e u))
+never-ten c (e ∷ es) u = both (ap not (ten-for-the-unpaid c e u)) (never-ten (stepOf c e .call) es (paid-stays c e u))

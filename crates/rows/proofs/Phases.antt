@@ -38,7 +38,7 @@ use Rattle.rows.specs.declared.Row.{Row}
 use Rattle.rows.specs.declared.Stand.{Stand}
 use Rattle.rows.specs.declared.Terms.{Terms}
 use Rattle.rows.proofs.Found.{implies, so, Test, holds, stepped}
-use Rattle.rows.proofs.Truth.{differ, left, right}
+use Rattle.rows.proofs.Truth.{both, differ, left, right}
 
 -- ---- Kinds of events, and the tests of the promises
 
@@ -130,10 +130,6 @@ result-setup (Result n) h = h
 result-setup (Error n) h = h
 result-setup (Reject n) h = h
 result-setup (Unknown c n) h = h
-
-both : (a b : Bool) → a ≡ true → b ≡ true → (a && b) ≡ true
-both true b h k = k
-both false b h k = h
 
 -- ---- NONE, NULL, SETUP, ANSWERED, CLEARED
 
@@ -263,7 +259,7 @@ module _ (t : Terms) (a b : Bool) where
   by-anm f s g (Opening r x n) h l = h
   by-anm f s g (Ask q n) h l = h
   by-anm f s g (Received m) h l =
-      both _ _ (anm-or-con (eqb (m .kind) 1) (eqb (m .kind) 2 || eqb (m .kind) 3) (eqb (m .kind) 4) h)
+      both (anm-or-con (eqb (m .kind) 1) (eqb (m .kind) 2 || eqb (m .kind) 3) (eqb (m .kind) 4) h)
       (g m (subst (λ (k : Kind). leads s (originatingSetupOf s (asKind m k)) ≡ true) (is-answer _ h) l))
   by-anm f s g (FromAccess a n) h l = h
   by-anm f s g Expiry h l = h

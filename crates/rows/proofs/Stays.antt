@@ -42,10 +42,7 @@ use Rattle.rows.specs.declared.Side.{Side}
 use Rattle.rows.specs.declared.Stand.{Stand}
 use Rattle.rows.proofs.Found.{implies, so, Test, holds, stepped}
 use Rattle.rows.proofs.Answers.{planFor}
-use Rattle.rows.proofs.Truth.{differ, left, right}
-
-both : {a b : Bool} → a ≡ true → b ≡ true → (a && b) ≡ true
-both {a} {b} p q = ap (λ (x : Bool). x && b) p ∙ q
+use Rattle.rows.proofs.Truth.{both, differ, left, right}
 
 -- ---- Numbers: those that an event in range carries are in range
 

@@ -1,6 +1,6 @@
 -- What a test that came out true says of its parts.
 -- Assumes nothing.
-use mathlib.Core.Path.{_≡_, refl}
+use mathlib.Core.Path.{_≡_, refl, _∙_, ap}
 use mathlib.Core.Bool.{Bool, true, false, _&&_, _||_}
 use Prim.Native.Nat.{ℕ}
 use native.Mathlib.Omega.{arith}
@@ -15,6 +15,9 @@ left false b h = h
 pub right : (a b : Bool) → (a && b) ≡ true → b ≡ true
 right true b h = h
 right false b h = differ h
+
+pub both : {a b : Bool} → a ≡ true → b ≡ true → (a && b) ≡ true
+both {a} {b} p q = ap (λ (x : Bool). x && b) p ∙ q
 
 -- one of two, and what follows from each
 pub either : {A : Type 0} (a b : Bool) → (a || b) ≡ true → (a ≡ true → A) → (b ≡ true → A) → A

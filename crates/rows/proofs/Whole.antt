@@ -58,6 +58,7 @@ use Rattle.rows.specs.declared.RevState.the-variants.{WaitCalled}
 use Rattle.rows.specs.declared.Role.the-variants.{Originating}
 use Rattle.rows.specs.declared.Row.{Row}
 use Rattle.rows.proofs.Answers.{settled, guard-3, guard-9}
+use Rattle.rows.proofs.Found.{split, fork}
 
 -- ---- What a reader of the history knows so far: the reversal, the seconds before it and those after it
 
@@ -133,15 +134,6 @@ Good f w c d o e a = Agrees f (a .call) (waitsBy w d (written c e a)) (note o (m
 -- so does a row
 abbrev Fine : ℕ → Said → Call → Mark → Known → Event → Row → Type 0
 Fine f w c d o e row = Good f w c d o e (performOf c (planOf row (termsOf (c .side .flags) (c .stand) (readOf e))) (readOf e))
-
-split : (P : Row → Type 0) (b : Bool) (x y : Row) → P x → P y → P (when b x y)
-split P true x y p q = p
-split P false x y p q = q
-
--- a test that stands in the table and in what the event says
-fork : (P : Bool → Row → Type 0) (b : Bool) (x y : Row) → P true x → P false y → P b (when b x y)
-fork P true x y p q = p
-fork P false x y p q = q
 
 kinds : (P : Kind → Type 0) (a b r : Bool) → P Iam → P Answer → P Rel → P Fac → P (kindBy a b r)
 kinds P true b r i n l c = i

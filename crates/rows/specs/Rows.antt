@@ -7,8 +7,8 @@
 -- last which needed parts are there.
 -- Where next (Perform.antt, standOf): ToSetup, ToAnswered, ToCleared are SETUP, ANSWERED and CLEARED with REV IDLE; ToActive is ANSWERED
 -- and ACTIVE; ToWait.. is that wait; Stay is as it was.
--- Who pays from then on: CallerPays and CalledPays are charged at this exchange, FarPays at the other one (transfer mode: nothing is
--- charged here); EntireTo.. moves the caller's seconds there too; Keep is as before.
+-- Who pays from then on: CallerPays and CalledPays are charged at this exchange, FarPays at the other one (for the originating exchange
+-- that is transfer mode, for the destination no transfer); EntireTo.. moves the caller's seconds there too; Keep is as before.
 -- Transfer or not (Read.antt, termsOf): mode, this exchange supports it; taken, an invoke requests it and this exchange supports it;
 -- accepted, this exchange requested it and the result accepts it; agreed, what was settled when the wait began.
 -- A message's parts: transferPart, Transfer Requested; agreedParts, Transfer Accepted; partialPart, Partial Call Only; callingPart and
