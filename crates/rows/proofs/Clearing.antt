@@ -1,24 +1,33 @@
 -- A CLEARING CLEARS, and who is charged at a destination once its own user's word puts reverse charging in effect.
 -- Assumes nothing.
 use mathlib.Core.Path.{_≡_, refl, sym, _∙_, ap, subst}
-use mathlib.Core.Bool.{Bool, true, false, _&&_}
+use mathlib.Core.Bool.{Bool, true, false, _&&_, _||_, not}
 use Prim.Native.Nat.{ℕ}
-use lib.Dec.{eqb}
+use native.Mathlib.Omega.{arith}
+use lib.Dec.{eqb, leb}
 use borrow.Author.Tests.{eqb-true}
-use Rattle.meters.specs.Meters.{changeOf}
+use Rattle.meters.proofs.Laws.{Gave, gave}
+use Rattle.meters.specs.Meters.{receivedOf, changeOf}
 use Rattle.meters.specs.declared.Change.{Change}
 use Rattle.meters.specs.declared.Meters.{Meters}
+use Rattle.meters.specs.declared.Payer.the-variants.{Called}
+use Rattle.rows.specs.Bill.{bitAt, resultTo}
 use Rattle.rows.specs.Perform.{standOf, settledOf, performIf, performOf}
-use Rattle.rows.specs.Promises.{placeIn, setupTold, answeredTold, accessTurns, takesEffect, inCall, Clears, chargedBy}
-use Rattle.rows.specs.Read.{kindOf, readOf}
+use Rattle.rows.specs.Promises.{placeIn, sent, isFacility, calledTurns, setupTold, answeredTold, messageTurns, accessTurns}
+use Rattle.rows.specs.Promises.{takesEffect, inCall, Clears, chargedBy}
+use Rattle.rows.specs.Read.{bit, kindOf, readOf, modeBy, extentBy}
+use Rattle.rows.specs.Rows
 use Rattle.rows.specs.Step.{takesOf, stepOf}
 use Rattle.rows.specs.Valid.{placedOf, validOf, eventOk}
 use Rattle.rows.specs.declared.Call.{Call}
+use Rattle.rows.specs.declared.Component.{Component}
 use Rattle.rows.specs.declared.Event.{Event}
 use Rattle.rows.specs.declared.Event.the-variants.{Received, FromAccess}
+use Rattle.rows.specs.declared.Extent.the-variants.{Entire}
 use Rattle.rows.specs.declared.Flags.{Flags}
 use Rattle.rows.specs.declared.Kind.{Kind}
 use Rattle.rows.specs.declared.Message.{Message}
+use Rattle.rows.specs.declared.Mode.the-variants.{Transfer}
 use Rattle.rows.specs.declared.Number.{Number}
 use Rattle.rows.specs.declared.Outcome.{Outcome}
 use Rattle.rows.specs.declared.Phase.{Phase}
@@ -30,10 +39,14 @@ use Rattle.rows.specs.declared.RevState.the-variants.{Idle, WaitSetup, W
 use Rattle.rows.specs.declared.RevState.the-variants.{WaitActiveConf, WaitCalled}
 use Rattle.rows.specs.declared.Role.{Role}
 use Rattle.rows.specs.declared.Role.the-variants.{Originating, Destination}
-use Rattle.rows.proofs.Answers.{planFor, row-decides}
+use Rattle.rows.proofs.Answers.{planFor, row-decides, settled}
 use Rattle.rows.proofs.Found.{implies, so, Test, holds}
-use Rattle.rows.proofs.Progress.{valid-place, standing}
+use Rattle.rows.proofs.Progress.{valid-place, standing, a-facility, a-result, reversal-takes-effect}
 use Rattle.rows.proofs.Truth.{differ, left, right}
+
+abbrev isDestination : Role → Bool
+isDestination Originating = false
+isDestination Destination = true
 
 -- ---- SETUP and ANSWERED: a REL with any component, or the own access's clearing, clears
 
@@ -194,3 +207,70 @@ charged-there c k n v o h =
     ap (λ (x : Outcome). x .call .meters .payer) (row-decides c (FromAccess k n) v o)
     ∙ charges (c .side .flags) (c .stand .rest) (c .meters) (c .side .own) (c .side .calling) (c .side .called) n (c .side .role) (c .stand .phase)
     (c .stand .rev) (c .stand .agreed) k h
+
+-- ---- The same where the other exchange's result puts it in effect (D45 to D47)
+
+module _ (c : Call) (r : Reading) where
+  -- who is charged, if the row applied
+  abbrev Charged : Bool → Outcome → Type 0
+  Charged t o = o .number ≡ 0 → o .call .meters .payer ≡ chargedBy t Answered (c .meters .payer)
+
+  accepted-charges : (t n b d : Bool) → (not t || (n && (b || (d && leb (r .seconds) 31536000)))) ≡ true →
+      Charged t (performOf c (Rows.calledAccepted (extentBy b) (modeBy t) n d) r)
+  accepted-charges false n b d h = λ z. refl
+  accepted-charges true true true d h = λ z. refl
+  accepted-charges true true false true h =
+      settled (Charged true) (receivedOf (c .meters) (r .seconds)) c (Rows.calledAccepted Entire Transfer true true) r
+      (λ n e z. let g : Gave _ n Called (r .seconds) = gave _ n (r .seconds) e in g .payer)
+      (λ z. absurd (omega (arith, z)))
+      (λ z. absurd (omega (arith, z)))
+  accepted-charges true true false false h = λ z. differ h
+  accepted-charges true false b d h = λ z. differ h
+
+module _ (f : Flags) (a b : Bool) (mt : Meters) (u v w : Number) (m : Message) where
+  abbrev transferred : Bool
+  transferred = f .transfer && (bit 2 (m .parts) && bit 4 (m .parts))
+
+  abbrev here : Phase → RevState → Call
+  here ph rv = standing Destination f ph rv a b mt u v w
+
+  abbrev Told : RevState → ℕ → Component → Type 0
+  Told rv k x =
+      Charged (here Answered rv) (readOf (Received m)) transferred
+      (takesOf (here Answered rv) (Received (sent k (m .cause) x (m .parts) (m .calling) (m .called) (m .duration))))
+
+  by-result : (rv : RevState) → calledTurns rv f b m ≡ true → Told rv (m .kind) (m .component)
+  by-result Idle h = differ h
+  by-result WaitSetup h = differ h
+  by-result WaitActive h = differ h
+  by-result WaitAnswer h = differ h
+  by-result Active h = differ h
+  by-result WaitSetupConf h = differ h
+  by-result WaitActiveConf h = differ h
+  by-result WaitCalled h =
+      a-facility (λ (k : ℕ). Told WaitCalled k (m .component)) (m .kind) (left _ _ h)
+      (a-result (Told WaitCalled 5) 3 (m .component) (left _ _ (right (isFacility m) _ h))
+      (accepted-charges _ _ transferred (bit 16 (m .parts)) b (bit 64 (m .parts))
+      (right (resultTo 3 (m .component)) _ (right (isFacility m) _ h))))
+
+  at-destination : (r : Role) (ph : Phase) (rv : RevState) → r ≡ Destination → messageTurns r ph rv f b m ≡ true →
+      takesOf (standing r f ph rv a b mt u v w) (Received m) .number ≡ 0 →
+      takesOf (standing r f ph rv a b mt u v w) (Received m) .call .meters .payer ≡ chargedBy transferred Answered (mt .payer)
+  at-destination r Unopened rv e h = differ h
+  at-destination r Null rv e h = differ h
+  at-destination Originating Setup rv e h = let z : false ≡ true = ap isDestination e in differ z
+  at-destination Destination Setup rv e h = differ h
+  at-destination Originating Answered rv e h = let z : false ≡ true = ap isDestination e in differ z
+  at-destination Destination Answered rv e h = by-result rv h
+  at-destination r Cleared rv e h = differ h
+
+pub charged-by-result : (c : Call) (m : Message) → c .side .role ≡ Destination → validOf c ≡ true → eventOk (Received m) ≡ true →
+    takesEffect c (Received m) ≡ true →
+    stepOf c (Received m) .call .meters .payer
+    ≡ chargedBy (c .side .flags .transfer && (bitAt 2 (m .parts) && bitAt 4 (m .parts))) Answered (c .meters .payer)
+charged-by-result c m r v o h =
+    let e = row-decides c (Received m) v o in
+    ap (λ (x : Outcome). x .call .meters .payer) e
+    ∙ at-destination (c .side .flags) (c .stand .agreed) (c .stand .rest) (c .meters) (c .side .own) (c .side .calling) (c .side .called) m
+    (c .side .role) (c .stand .phase) (c .stand .rev) r h
+    (sym (ap (λ (x : Outcome). x .number) e) ∙ reversal-takes-effect c (Received m) v o h .number)

@@ -169,10 +169,10 @@ an-answer : (P : ℕ → Type 0) (k : ℕ) → (eqb k 2 || eqb k 3) ≡ true →
 an-answer P k h x y =
     either (eqb k 2) (eqb k 3) h (λ z. subst P (sym (eqb-true k 2 z)) x) (λ z. subst P (sym (eqb-true k 3 z)) y)
 
-a-facility : (P : ℕ → Type 0) (k : ℕ) → eqb k 5 ≡ true → P 5 → P k
+pub a-facility : (P : ℕ → Type 0) (k : ℕ) → eqb k 5 ≡ true → P 5 → P k
 a-facility P k h x = subst P (sym (eqb-true k 5 h)) x
 
-a-result : (P : Component → Type 0) (k : ℕ) (x : Component) → resultTo k x ≡ true → P (Result k) → P x
+pub a-result : (P : Component → Type 0) (k : ℕ) (x : Component) → resultTo k x ≡ true → P (Result k) → P x
 a-result P k (Absent n) h y = differ h
 a-result P k (Invoke n) h y = differ h
 a-result P k (Result n) h y = subst (λ (j : ℕ). P (Result j)) (sym (eqb-true n k h)) y

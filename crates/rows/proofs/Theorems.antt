@@ -5,13 +5,13 @@
 -- docs/STATEMENTS.md names a wrong program that each rules out.
 -- Assumes nothing.
 use mathlib.Core.Path.{_≡_, refl}
-use mathlib.Core.Bool.{Bool, true, false, not}
+use mathlib.Core.Bool.{Bool, true, false, _&&_, not}
 use mathlib.Core.List.{List, _++_}
 use Prim.Native.Nat.{ℕ, _+_, _≤_}
 use lib.Dec.{eqb}
 use Rattle.meters.specs.Meters.{totalOf}
 use Rattle.meters.specs.declared.Payer.the-variants.{Nobody}
-use Rattle.rows.specs.Bill.{isAnswered, isRev, answered, Case, plain, marks, took, reversal, payer, bill, line}
+use Rattle.rows.specs.Bill.{bitAt, isAnswered, isRev, answered, Case, plain, marks, took, reversal, payer, bill, line}
 use Rattle.rows.specs.History.{run, history, opening}
 use Rattle.rows.specs.Perform.{refusedOf}
 use Rattle.rows.specs.Promises.{NothingDone, noneIs, unpaid, Answering, runs, inCall, Clears, chargedBy, placeIn, isOpening}
@@ -26,6 +26,7 @@ use Rattle.rows.specs.declared.Message.{Message}
 use Rattle.rows.specs.declared.Number.{Number}
 use Rattle.rows.specs.declared.Phase.the-variants.{Answered, Cleared}
 use Rattle.rows.specs.declared.RevState.the-variants.{Active}
+use Rattle.rows.specs.declared.Role.the-variants.{Destination}
 use Rattle.rows.proofs.Clearing
 use Rattle.rows.proofs.Destination
 use Rattle.rows.proofs.Digits
@@ -196,6 +197,13 @@ opens-there-in-range = Destination.opens-there-in-range
 pub charged-there : (c : Call) (k n : ℕ) → validOf c ≡ true → eventOk (FromAccess k n) ≡ true → takesEffect c (FromAccess k n) ≡ true →
     stepOf c (FromAccess k n) .call .meters .payer ≡ chargedBy (c .stand .agreed) (c .stand .phase) (c .meters .payer)
 charged-there = Clearing.charged-there
+
+-- So it is where the other exchange's result does (cases B and C): by whether transfer was requested here and accepted in it.
+pub charged-by-result : (c : Call) (m : Message) → c .side .role ≡ Destination → validOf c ≡ true → eventOk (Received m) ≡ true →
+    takesEffect c (Received m) ≡ true →
+    stepOf c (Received m) .call .meters .payer
+    ≡ chargedBy (c .side .flags .transfer && (bitAt 2 (m .parts) && bitAt 4 (m .parts))) Answered (c .meters .payer)
+charged-by-result = Clearing.charged-by-result
 
 -- ---- Digits decide nothing
 
