@@ -288,18 +288,22 @@ module _ (f q : ℕ) (n u v z : Number) (a r w : Bool) {m : Meters} {x : ℕ} (y
   asks-called false h =
       fork Asks (eqb q 3) _ _ (plan-called f u v z a r w false q n y false (judgedBy (bit 2 f && not (bit 4 f)) (bit 8 f)) (modeBy (lowest f))) (search states)
 
+-- where a further request, A, B or C, is answered that it is running
+again : (f q : ℕ) (n : Number) (c : Call) (w : Bool) (x : ℕ) → Fine f (eqb q 3) false c w x (Ask q n) Row.RunningHere →
+    Fine f (eqb q 3) false c w x (Ask q n) Row.NoRow →
+    Fine f (eqb q 3) false c w x (Ask q n) (when (leb 1 q && leb q 3) Row.RunningHere Row.NoRow)
+again f q n c w x = split (Fine f (eqb q 3) false c w x (Ask q n)) (leb 1 q && leb q 3) _ _
+
 asks : (f q : ℕ) (n : Number) {c : Call} {w : Bool} {x : ℕ} → Agrees f c w x → Kept f c w x (Ask q n)
 asks f q n null = search states
 asks f q n setup = search states
 asks f q n asked-A = search states
-asks f q n asked-D = search states
+asks f q n {c} {w} {x} asked-D = again f q n c w x (search states) (search states)
 asks f q n waits = search states
 asks f q n {c} {w} (talks {u} {v} {z} {a} {r} y) = asks-called f q n u v z a r w y (eqb q 2) refl
-asks f q n {c} {w} {x} (asked-B y) =
-    split (Fine f (eqb q 3) false c w x (Ask q n)) (leb 1 q && leb q 3) _ _ (search states) (search states)
-asks f q n (asked y) = search states
-asks f q n {c} {w} {x} (turned y) =
-    split (Fine f (eqb q 3) false c w x (Ask q n)) (leb 1 q && leb q 3) _ _ (search states) (search states)
+asks f q n {c} {w} {x} (asked-B y) = again f q n c w x (search states) (search states)
+asks f q n {c} {w} {x} (asked y) = again f q n c w x (asked y) (asked y)
+asks f q n {c} {w} {x} (turned y) = again f q n c w x (search states) (search states)
 asks f q n (over y) = search states
 
 -- a message in range that is no IAM, ANM, CON or REL is a FAC
@@ -357,8 +361,9 @@ module _ (f : ℕ) (l : Message) (ok : messageOk l ≡ true) where
   receives {c} {w} {x} asked-A = by-kind l (K c w x waitSetupConfOf) (search states) (search states) (search states) (search states)
   receives {c} {w} {x} (asked-D {u} {v} {z} {a} {r}) =
       by-kind l (K c w x setupWaitCalledOf) (search states) (search states) (search states)
+      (split (P c w x) (word .invoke) _ _ (search states)
       (split (P c w x) (word .resultcalled) _ _ (accepted-D f u v z a r w false G l (modeBy (transferred f l)) (bit 16 (l .parts)))
-      (split (P c w x) (word .failure) _ _ (search states) (split (P c w x) (word .rejection) _ _ (search states) (search states))))
+      (split (P c w x) (word .failure) _ _ (search states) (split (P c w x) (word .rejection) _ _ (search states) (search states)))))
   receives {c} {w} {x} waits = by-kind l (K c w x destinationWaitAnswerOf) (search states) (search states) (search states) (search states)
   receives {c} {w} {x} (talks {u} {v} {z} {a} {r} y) =
       by-kind l (K c w x destinationAnsweredIdleOf) (search states) (search states) (search states)
@@ -371,11 +376,12 @@ module _ (f : ℕ) (l : Message) (ok : messageOk l ≡ true) where
       kinds (onFac c w x) (l .kind) (leb-true _ _ (left (leb 1 (l .kind)) _ (left (leb 1 (l .kind) && leb (l .kind) 5) _ ok)))
       (leb-true _ _ (right (leb 1 (l .kind)) _ (left (leb 1 (l .kind) && leb (l .kind) 5) _ ok)))
       (λ b. asked y) (λ b. asked y) (λ b. search states)
+      (split (onResult c w x (word .resultcalled)) (word .invoke) _ _ (asked y)
       (fork (onResult c w x) (word .resultcalled) _ _
       (accepted-BC f u v z a false l y (transferred f l) (bit 16 (l .parts)) r (bit 64 (l .parts)))
       (split (onResult c w x false) (word .failure) _ _
       (refused-BC f u v z a false l y false r (correctBy (listedOf (errorOf (l .component)))) (errorOf (l .component)))
-      (split (onResult c w x false) (word .rejection) _ _ (search states) (asked y))))
+      (split (onResult c w x false) (word .rejection) _ _ (search states) (asked y)))))
       (eqb (l .kind) 1) (eqb (l .kind) 2 || eqb (l .kind) 3) (eqb (l .kind) 4) refl refl refl
   receives {c} {w} {x} (turned y) =
       by-kind l (K c w x activeOf) (search states) (search states) (search states)

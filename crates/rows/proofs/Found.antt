@@ -322,9 +322,9 @@ module _ (g : Kind → Row → Bool) (e : Cue) where
 
   abbrev setupWaitCalled : Place g (λ (k : Kind). setupWaitCalledOf k e)
   setupWaitCalled =
-      table g (λ k. setupWaitCalledOf k e) one one one one one
-      (either (e .heard .resultcalled) one (either (e .heard .failure) one (either (e .heard .rejection) one one)))
-      (either (e .told .clears) one one) one one
+      table g (λ k. setupWaitCalledOf k e) one (either (e .asked .reversal) one one) one one one
+      (either (e .heard .invoke) one (either (e .heard .resultcalled) one (either (e .heard .failure) one
+      (either (e .heard .rejection) one one)))) (either (e .told .clears) one one) one one
 
   abbrev destinationWaitAnswer : Place g (λ (k : Kind). destinationWaitAnswerOf k e)
   destinationWaitAnswer =
@@ -344,9 +344,9 @@ module _ (g : Kind → Row → Bool) (e : Cue) where
 
   abbrev answeredWaitCalled : Place g (λ (k : Kind). answeredWaitCalledOf k e)
   answeredWaitCalled =
-      table g (λ k. answeredWaitCalledOf k e) one one one one one
-      (either (e .heard .resultcalled) one (either (e .heard .failure) one (either (e .heard .rejection) one one)))
-      (either (e .told .clears) one one) one one
+      table g (λ k. answeredWaitCalledOf k e) one (either (e .asked .reversal) one one) one one one
+      (either (e .heard .invoke) one (either (e .heard .resultcalled) one (either (e .heard .failure) one
+      (either (e .heard .rejection) one one)))) (either (e .told .clears) one one) one one
 
   abbrev here : {t : Kind → Row} → Place g t → Tried (g (e .kind)) (t (e .kind))
   here p = record { test = p .test; law = λ h. p .law h (e .kind) }

@@ -199,15 +199,16 @@ waitSetupConfOf Passes e = TimeInSetup  -- G2  01, "only ANSWERED counts"
 -- destination, SETUP, WAIT-CALLED
 abbrev pub setupWaitCalledOf : Kind → Cue → Row
 setupWaitCalledOf Opens e = NoRow
-setupWaitCalledOf Asks e = NoRow
+setupWaitCalledOf Asks e = when (e .asked .reversal) RunningHere NoRow  -- D57  02 #101, "A, B or C from her"
 setupWaitCalledOf Iam e = NoRow
 setupWaitCalledOf Answer e = NoRow
 setupWaitCalledOf Rel e = Released  -- G5  01, "a REL from the other exchange"
 setupWaitCalledOf Fac e =
-    when (e .heard .resultcalled) UnconditionalAccepted  -- D18, D19  3.5.2.5.5.1, "When the state is wait" a, b
+    when (e .heard .invoke) RunningThere  -- D58  02 #101, "any invoke in FAC"
+    (when (e .heard .resultcalled) UnconditionalAccepted  -- D18, D19  3.5.2.5.5.1, "When the state is wait" a, b
     (when (e .heard .failure) UnconditionalFailed  -- D20  3.5.2.5.5.2 i, with a Return Error
     (when (e .heard .rejection) UnconditionalFailed  -- D20  3.5.2.5.5.2 i, with a Reject
-    NoRow))
+    NoRow)))
 setupWaitCalledOf Tells e = when (e .told .clears) ClearedHere NoRow  -- G4  01, "own access clearing"
 setupWaitCalledOf Expires e = UnconditionalFailed  -- D21  3.5.2.5.5.2 ii
 setupWaitCalledOf Passes e = TimeInSetup  -- G2  01, "only ANSWERED counts"
@@ -264,15 +265,16 @@ waitActiveConfOf Passes e = TimeCounts  -- G3  01, "one of them runs"
 -- destination, ANSWERED, WAIT-CALLED
 abbrev pub answeredWaitCalledOf : Kind → Cue → Row
 answeredWaitCalledOf Opens e = NoRow
-answeredWaitCalledOf Asks e = NoRow
+answeredWaitCalledOf Asks e = when (e .asked .reversal) RunningHere NoRow  -- D59  02 #101, "A, B or C from her"
 answeredWaitCalledOf Iam e = NoRow
 answeredWaitCalledOf Answer e = NoRow
 answeredWaitCalledOf Rel e = WaitReleased  -- D52  3.5.2.3.5.2, a Release Message, 3.5.2.4.5.2, a Release Message
 answeredWaitCalledOf Fac e =
-    when (e .heard .resultcalled) CalledAccepted  -- D45 to D47  3.5.2.3.5.1 a, b; 3.5.2.4.5.1 a, b
+    when (e .heard .invoke) RunningThere  -- D60  02 #101, "any invoke in FAC"
+    (when (e .heard .resultcalled) CalledAccepted  -- D45 to D47  3.5.2.3.5.1 a, b; 3.5.2.4.5.1 a, b
     (when (e .heard .failure) WaitError  -- D48, D49  3.5.2.3.5.2 a, 3.5.2.4.5.2 a
     (when (e .heard .rejection) WaitFailed  -- D50  3.5.2.3.5.2 b, 3.5.2.4.5.2 b
-    NoRow))
+    NoRow)))
 answeredWaitCalledOf Tells e = when (e .told .clears) ClearedHere NoRow  -- G4  01, "own access clearing"
 answeredWaitCalledOf Expires e = WaitFailed  -- D51  3.5.2.3.5.2 c, 3.5.2.4.5.2 c
 answeredWaitCalledOf Passes e = TimeCounts  -- G3  01, "one of them runs"

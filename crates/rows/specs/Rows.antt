@@ -329,9 +329,11 @@ planOf ClearedHere t = stops SendRel (Absent 0) normalClearing
 -- G5  01, "a REL from the other exchange"; O18  3.5.2.5.1.2, second sentence;
 -- D24  3.5.2.5.5.2, "wait for basic call confirmation"; O40, D56  3.5.2.n.1.1, 3.5.2.n.5.1 last
 planOf Released t = stops AccessRel (Absent 0) (t .cause)
--- O37, D53  3.5.2.n.1.2, 3.5.2.n.5.2 last; O35, D43  3.5.2.2.1.2, 3.5.2.2.5.2 last
+-- O37, D53  3.5.2.n.1.2, 3.5.2.n.5.2 last; O35, D43  3.5.2.2.1.2, 3.5.2.2.5.2 last;
+-- D57, D59  02 #101, "A, B or C from her"
 planOf RunningHere t = accessError Stay alreadyRunning
--- O38, D54  3.5.2.n.1.2, 3.5.2.n.5.2 last; O36, D44  3.5.2.2.1.2, 3.5.2.2.5.2 last
+-- O38, D54  3.5.2.n.1.2, 3.5.2.n.5.2 last; O36, D44  3.5.2.2.1.2, 3.5.2.2.5.2 last;
+-- D58, D60  02 #101, "any invoke in FAC"
 planOf RunningThere t = farError Stay alreadyRunning
 planOf BasicRequest t = basicRequest  -- O1
 planOf AskSetup t = askSetup (t .interaction) (t .mode)  -- O2 to O4

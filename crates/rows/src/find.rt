@@ -363,24 +363,33 @@ pub(crate) fn setup_wait_called(e: Cue) -> Row
     ensures { λ out. ⌜ out ≡ setupWaitCalledOf (e .kind) e ⌝ }
 {
     let k = e.kind;
+    let q = e.asked;
     let h = e.heard;
     let a = e.told;
     match k {
         Kind::Opens => Row::NoRow,
-        Kind::Asks => Row::NoRow,
+        Kind::Asks => if q.reversal {
+            Row::RunningHere
+        } else {
+            Row::NoRow
+        },
         Kind::Iam => Row::NoRow,
         Kind::Answer => Row::NoRow,
         Kind::Rel => Row::Released,
-        Kind::Fac => if h.resultcalled {
-            Row::UnconditionalAccepted
+        Kind::Fac => if h.invoke {
+            Row::RunningThere
         } else {
-            if h.failure {
-                Row::UnconditionalFailed
+            if h.resultcalled {
+                Row::UnconditionalAccepted
             } else {
-                if h.rejection {
+                if h.failure {
                     Row::UnconditionalFailed
                 } else {
-                    Row::NoRow
+                    if h.rejection {
+                        Row::UnconditionalFailed
+                    } else {
+                        Row::NoRow
+                    }
                 }
             }
         },
@@ -504,24 +513,33 @@ pub(crate) fn answered_wait_called(e: Cue) -> Row
     ensures { λ out. ⌜ out ≡ answeredWaitCalledOf (e .kind) e ⌝ }
 {
     let k = e.kind;
+    let q = e.asked;
     let h = e.heard;
     let a = e.told;
     match k {
         Kind::Opens => Row::NoRow,
-        Kind::Asks => Row::NoRow,
+        Kind::Asks => if q.reversal {
+            Row::RunningHere
+        } else {
+            Row::NoRow
+        },
         Kind::Iam => Row::NoRow,
         Kind::Answer => Row::NoRow,
         Kind::Rel => Row::WaitReleased,
-        Kind::Fac => if h.resultcalled {
-            Row::CalledAccepted
+        Kind::Fac => if h.invoke {
+            Row::RunningThere
         } else {
-            if h.failure {
-                Row::WaitError
+            if h.resultcalled {
+                Row::CalledAccepted
             } else {
-                if h.rejection {
-                    Row::WaitFailed
+                if h.failure {
+                    Row::WaitError
                 } else {
-                    Row::NoRow
+                    if h.rejection {
+                        Row::WaitFailed
+                    } else {
+                        Row::NoRow
+                    }
                 }
             }
         },

@@ -179,9 +179,9 @@ pub enum Row {
     ClearedHere,
     // G5, O18, O40, D24, D56
     Released,
-    // O35, O37, D43, D53
+    // O35, O37, D43, D53, D57, D59
     RunningHere,
-    // O36, O38, D44, D54
+    // O36, O38, D44, D54, D58, D60
     RunningThere,
     // O1
     BasicRequest,

@@ -918,8 +918,8 @@ pub(crate) fn plan_of(row: Row, t: Terms) -> Plan
         Row::TimeCounts => quiet(Next::Stay, Change::TimePasses, Register::AsHeld), // G3
         Row::ClearedHere => stops(Act::SendRel, Component::Absent(0), NORMAL_CLEARING), // G4, O19, O39, D15, D25, D55
         Row::Released => stops(Act::AccessRel, Component::Absent(0), t.cause), // G5, O18, O40, D24, D56
-        Row::RunningHere => access_error(Next::Stay, ALREADY_RUNNING), // O35, O37, D43, D53
-        Row::RunningThere => far_error(Next::Stay, ALREADY_RUNNING), // O36, O38, D44, D54
+        Row::RunningHere => access_error(Next::Stay, ALREADY_RUNNING), // O35, O37, D43, D53, D57, D59
+        Row::RunningThere => far_error(Next::Stay, ALREADY_RUNNING), // O36, O38, D44, D54, D58, D60
         Row::BasicRequest => basic_request(), // O1
         Row::AskSetup => ask_setup(interaction, mode), // O2 to O4
         Row::BasicAnswer => basic_answer(), // O5
