@@ -11,6 +11,7 @@ pub mod Phases
 pub mod Progress
 pub mod Refusals
 pub mod Reversal
+pub mod Running
 pub mod Stays
 pub mod Theorems
 pub mod Truth

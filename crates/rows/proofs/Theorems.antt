@@ -15,13 +15,14 @@ use Rattle.rows.specs.Bill.{bitAt, isAnswered, isRev, answered, Case, pl
 use Rattle.rows.specs.History.{run, history, opening}
 use Rattle.rows.specs.Perform.{refusedOf}
 use Rattle.rows.specs.Promises.{NothingDone, noneIs, unpaid, Answering, runs, inCall, Clears, chargedBy, placeIn, isOpening}
+use Rattle.rows.specs.Promises.{isFacility, isRunning, asksReversal, isInvoke, toldRunning, sentRunning}
 use Rattle.rows.specs.Promises.{openingThere, secondsThere, noDuration}
 use Rattle.rows.specs.Promises.{reversals, Extends, Redialled, AllRedialled, Renumbered, SameAnswer, numbers, takesEffect, InEffect}
 use Rattle.rows.specs.Step.{unopenedCall, stepOf}
 use Rattle.rows.specs.Valid.{validOf, eventOk}
 use Rattle.rows.specs.declared.Call.{Call}
 use Rattle.rows.specs.declared.Event.{Event}
-use Rattle.rows.specs.declared.Event.the-variants.{Opening, Received, FromAccess, Time}
+use Rattle.rows.specs.declared.Event.the-variants.{Opening, Ask, Received, FromAccess, Time}
 use Rattle.rows.specs.declared.Message.{Message}
 use Rattle.rows.specs.declared.Number.{Number}
 use Rattle.rows.specs.declared.Phase.the-variants.{Answered, Cleared}
@@ -37,6 +38,7 @@ use Rattle.rows.proofs.Phases
 use Rattle.rows.proofs.Progress
 use Rattle.rows.proofs.Refusals
 use Rattle.rows.proofs.Reversal
+use Rattle.rows.proofs.Running
 use Rattle.rows.proofs.Stays
 use Rattle.rows.proofs.Whole
 use Rattle.rows.proofs.Whole.{Shows}
@@ -120,6 +122,19 @@ rel-clears = Clearing.rel-clears
 pub access-clears : (c : Call) (n : ℕ) → validOf c ≡ true → eventOk (FromAccess 4 n) ≡ true → inCall (c .stand .phase) ≡ true →
     Clears (stepOf c (FromAccess 4 n))
 access-clears = Clearing.access-clears
+
+-- ---- REV Is Already Running
+
+-- Where a request waits or reverse charging is in effect (`isRunning`), a further one of the own user, A, B or C, is answered by ACCESS ERROR
+-- 12, and by nothing else; the call is as it stood, so the wait goes on with all that is pending ..
+pub running-here : (c : Call) (q : ℕ) (n : Number) → validOf c ≡ true → eventOk (Ask q n) ≡ true → isRunning (c .stand .rev) ≡ true →
+    asksReversal q ≡ true → stepOf c (Ask q n) ≡ toldRunning c
+running-here = Running.running-here
+
+-- .. and so is an invoke of any operation in a FAC of the other exchange, by FAC ERROR 12.
+pub running-there : (c : Call) (m : Message) → validOf c ≡ true → eventOk (Received m) ≡ true → isRunning (c .stand .rev) ≡ true →
+    isFacility m ≡ true → isInvoke (m .component) ≡ true → stepOf c (Received m) ≡ sentRunning c
+running-there = Running.running-there
 
 -- ---- Demand 3: who pays each answered second of an originating call
 

@@ -23,6 +23,7 @@ use Rattle.rows.specs.declared.Event.{Event}
 use Rattle.rows.specs.declared.Event.the-variants.{Opening, Ask, Received, FromAccess, Expiry, Time}
 use Rattle.rows.specs.declared.Flags.{Flags}
 use Rattle.rows.specs.declared.Message.{Message}
+use Rattle.rows.specs.declared.Note.{Note}
 use Rattle.rows.specs.declared.Number.{Number}
 use Rattle.rows.specs.declared.Outcome.{Outcome}
 use Rattle.rows.specs.declared.Phase.{Phase}
@@ -388,6 +389,65 @@ pub record InEffect (o : Outcome) : Type 0 where
   pub number : o .number ≡ 0
   pub phase : o .call .stand .phase ≡ Answered
   pub rev : o .call .stand .rev ≡ Active
+
+-- ---- REV Is Already Running: proofs/Running.antt
+
+-- The REV states in which a further request is answered so: one waits for its answer in the answered call (WAIT-ACTIVE, WAIT-ACTIVE-CONF:
+-- 3.5.2.2.1.2, 3.5.2.2.5.2 last) or of the called user (WAIT-CALLED, in SETUP too: 02 #101), or reverse charging is in effect (ACTIVE:
+-- 3.5.2.n.1.2, 3.5.2.n.5.2 last)
+abbrev pub isRunning : RevState → Bool
+isRunning Idle = false
+isRunning WaitSetup = false
+isRunning WaitActive = true
+isRunning WaitAnswer = false
+isRunning Active = true
+isRunning WaitSetupConf = false
+isRunning WaitActiveConf = true
+isRunning WaitCalled = true
+
+-- 01, kind 2: a request for case A (1), B (2) or C (3)
+abbrev pub asksReversal : ℕ → Bool
+asksReversal q = eqb q 1 || (eqb q 2 || eqb q 3)
+
+-- of any operation
+abbrev pub isInvoke : Component → Bool
+isInvoke (Absent n) = false
+isInvoke (Invoke n) = true
+isInvoke (Result n) = false
+isInvoke (Error n) = false
+isInvoke (Reject n) = false
+isInvoke (Unknown k n) = false
+
+-- one action, which carries this error or this component and nothing else, and the call as it stood: phase, REV state, what is pending,
+-- numbers and meters
+abbrev pub saidAlone : Act → ℕ → Component → Call → Outcome
+saidAlone act error component c =
+    record {
+      number = 0;
+      call = c;
+      note =
+          record {
+            error = error;
+            cause = 0;
+            component = component;
+            parts = 0;
+            calling = record { count = 0; value = 0 };
+            called = record { count = 0; value = 0 };
+            duration = 0;
+          };
+      first = act;
+      second = Act.Nothing;
+      third = Act.Nothing;
+      fourth = Act.Nothing;
+    }
+
+-- ACCESS ERROR 12
+abbrev pub toldRunning : Call → Outcome
+toldRunning c = saidAlone Act.AccessError 12 (Absent 0) c
+
+-- FAC ERROR 12
+abbrev pub sentRunning : Call → Outcome
+sentRunning c = saidAlone Act.SendFac 0 (Error 12) c
 
 -- ---- A clearing clears, and who is charged at a destination: proofs/Clearing.antt
 

@@ -25,7 +25,8 @@ use Rattle.rows.specs.declared.Outcome.{Outcome}
 use Rattle.rows.specs.declared.Phase.{Phase}
 use Rattle.rows.specs.declared.Phase.the-variants.{Null, Setup, Answered, Cleared}
 use Rattle.rows.specs.declared.RevState.{RevState}
-use Rattle.rows.specs.declared.RevState.the-variants.{Idle, WaitSetup, WaitActive, WaitSetupConf, WaitActiveConf, WaitCalled, Active}
+use Rattle.rows.specs.declared.RevState.the-variants.{Idle, WaitSetup, WaitActive, WaitAnswer, WaitSetupConf, WaitActiveConf, WaitCalled}
+use Rattle.rows.specs.declared.RevState.the-variants.{Active}
 use Rattle.rows.specs.declared.Role.{Role}
 
 -- a line of the listing, without its printing
@@ -197,6 +198,39 @@ year-and-a-second = refl
 -- expiry in IDLE gives 1
 idle-expiry : run (talked 40) (Expiry ∷ []) ≡ line 1 Answered Idle 40 0 0 [] ∷ []
 idle-expiry = refl
+
+-- ---- The second press, 02 #101: "the wait goes on"
+
+-- The rest of the call asked for in transfer mode (case B), 40 s; pressed again for the entire call, and asked by the other exchange: told
+-- that it is running. Then the result, with a Duration: it is still the rest of the call that was asked for, and the 40 s stay far's
+pressed-again : run unopenedCall
+    (Opening 1 9 room ∷ Received (plain iam 0 (Absent 0)) ∷ FromAccess 5 0 ∷ Ask 2 absent ∷ Time 40 ∷ Ask 3 absent
+    ∷ Received (plain fac 0 (Invoke callingReqActive))
+    ∷ Received (message fac 0 (Result calledRequest) (agreedParts + callingPart + durationPart) room absent 40) ∷ Time 20 ∷ [])
+    ≡ line 0 Null Idle 0 0 0 []
+    ∷ line 0 Setup Idle 0 0 0 (does AccessSetup ∷ [])
+    ∷ line 0 Answered Idle 0 0 0 (sends (plain anm 0 (Absent 0)) ∷ [])
+    ∷ line 0 Answered WaitCalled 0 0 0 (sends (message fac 0 (Invoke calledRequest) (transferPart + partialPart) absent absent 0) ∷ [])
+    ∷ line 0 Answered WaitCalled 0 0 40 []
+    ∷ line 0 Answered WaitCalled 0 0 40 (tells AccessError alreadyRunning ∷ [])
+    ∷ line 0 Answered WaitCalled 0 0 40 (sends (plain fac 0 (Error alreadyRunning)) ∷ [])
+    ∷ line 0 Answered Active 0 0 40 (does ChargeCalled ∷ does NotifyAccepted ∷ [])
+    ∷ line 0 Answered Active 0 20 40 []
+    ∷ []
+pressed-again = refl
+
+-- before the answer, in case D
+pressed-at-set-up : run unopenedCall
+    (Opening 1 24 room ∷ Received (plain iam 0 (Absent 0)) ∷ Ask 2 absent ∷ Received (plain fac 0 (Invoke calledRequest))
+    ∷ Received (plain fac 0 (Result calledRequest)) ∷ FromAccess 5 0 ∷ [])
+    ≡ line 0 Null Idle 0 0 0 []
+    ∷ line 0 Setup WaitCalled 0 0 0 (sends (message fac 0 (Invoke calledRequest) calledPart absent room 0) ∷ [])
+    ∷ line 0 Setup WaitCalled 0 0 0 (tells AccessError alreadyRunning ∷ [])
+    ∷ line 0 Setup WaitCalled 0 0 0 (sends (plain fac 0 (Error alreadyRunning)) ∷ [])
+    ∷ line 0 Setup WaitAnswer 0 0 0 (does NotifyAccepted ∷ [])
+    ∷ line 0 Answered Active 0 0 0 (sends (plain anm 0 (Absent 0)) ∷ [])
+    ∷ []
+pressed-at-set-up = refl
 
 -- ---- STOP in D42 and D52: from an opening the far exchange pays in these states, but a host may hand in a call that the called user pays
 

@@ -369,7 +369,7 @@ pub(crate) fn setup_wait_called(e: Cue) -> Row
     match k {
         Kind::Opens => Row::NoRow,
         Kind::Asks => if q.reversal {
-            Row::RunningHere
+            Row::RunningHere // case D: the wait goes on
         } else {
             Row::NoRow
         },
@@ -519,7 +519,7 @@ pub(crate) fn answered_wait_called(e: Cue) -> Row
     match k {
         Kind::Opens => Row::NoRow,
         Kind::Asks => if q.reversal {
-            Row::RunningHere
+            Row::RunningHere // cases B and C: the wait goes on
         } else {
             Row::NoRow
         },

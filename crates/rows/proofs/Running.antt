@@ -1,0 +1,142 @@
+-- REV IS ALREADY RUNNING: in every place where a request waits or reverse charging is in effect, a further one is told so, and nothing
+-- changes.
+-- Assumes nothing.
+use mathlib.Core.Path.{_≡_, refl, sym, _∙_, subst}
+use mathlib.Core.Bool.{Bool, true, false, _||_}
+use Prim.Native.Nat.{ℕ}
+use lib.Dec.{eqb}
+use borrow.Author.Tests.{eqb-true}
+use Rattle.rows.specs.Find.{waitActiveOf, activeOf, waitActiveConfOf, setupWaitCalledOf, answeredWaitCalledOf, rowForOf}
+use Rattle.rows.specs.Perform.{performOf}
+use Rattle.rows.specs.Promises.{sent, isFacility, isRunning, asksReversal, isInvoke, toldRunning, sentRunning}
+use Rattle.rows.specs.Read.{readOf, cueOf, termsOf}
+use Rattle.rows.specs.Rows.{planOf}
+use Rattle.rows.specs.Step.{takesOf, stepOf}
+use Rattle.rows.specs.Valid.{idleOnly, placedOf, validOf, eventOk}
+use Rattle.rows.specs.declared.Call.{Call}
+use Rattle.rows.specs.declared.Component.{Component}
+use Rattle.rows.specs.declared.Component.the-variants.{Absent, Invoke, Result, Error, Reject, Unknown}
+use Rattle.rows.specs.declared.Cue.{Cue}
+use Rattle.rows.specs.declared.Event.{Event}
+use Rattle.rows.specs.declared.Event.the-variants.{Ask, Received}
+use Rattle.rows.specs.declared.Kind.{Kind}
+use Rattle.rows.specs.declared.Message.{Message}
+use Rattle.rows.specs.declared.Number.{Number}
+use Rattle.rows.specs.declared.Outcome.{Outcome}
+use Rattle.rows.specs.declared.Phase.{Phase}
+use Rattle.rows.specs.declared.Phase.the-variants.{Unopened, Null, Setup, Answered, Cleared}
+use Rattle.rows.specs.declared.RevState.{RevState}
+use Rattle.rows.specs.declared.RevState.the-variants.{Idle, WaitSetup, WaitActive, WaitAnswer, Active, WaitSetupConf, WaitActiveConf}
+use Rattle.rows.specs.declared.RevState.the-variants.{WaitCalled}
+use Rattle.rows.specs.declared.Role.{Role}
+use Rattle.rows.specs.declared.Role.the-variants.{Originating, Destination}
+use Rattle.rows.specs.declared.Row.{Row}
+use Rattle.rows.proofs.Answers.{row-decides}
+use Rattle.rows.proofs.Progress.{valid-place, a-facility}
+use Rattle.rows.proofs.Truth.{differ, either}
+
+-- ---- What holds of the five tables holds wherever it is running
+
+not-idle : {A : Type 0} (rv : RevState) → isRunning rv ≡ true → idleOnly rv ≡ true → A
+not-idle Idle i h = differ i
+not-idle WaitSetup i h = differ i
+not-idle WaitActive i h = differ h
+not-idle WaitAnswer i h = differ i
+not-idle Active i h = differ h
+not-idle WaitSetupConf i h = differ i
+not-idle WaitActiveConf i h = differ h
+not-idle WaitCalled i h = differ h
+
+module _ (P : Row → Type 0) (e : Cue) (wait-active : P (waitActiveOf (e .kind) e)) (active : P (activeOf (e .kind) e))
+    (wait-active-conf : P (waitActiveConfOf (e .kind) e)) (setup-wait-called : P (setupWaitCalledOf (e .kind) e))
+    (answered-wait-called : P (answeredWaitCalledOf (e .kind) e)) where
+  where-running : (r : Role) (ph : Phase) (rv : RevState) → isRunning rv ≡ true → placedOf r ph rv ≡ true → P (rowForOf r ph rv e)
+  where-running r Unopened rv i h = not-idle rv i h
+  where-running r Null rv i h = not-idle rv i h
+  where-running r Cleared rv i h = not-idle rv i h
+  where-running Originating Setup Idle i h = differ i
+  where-running Originating Setup WaitSetup i h = differ i
+  where-running Originating Setup WaitActive i h = differ h
+  where-running Originating Setup WaitAnswer i h = differ i
+  where-running Originating Setup Active i h = differ h
+  where-running Originating Setup WaitSetupConf i h = differ i
+  where-running Originating Setup WaitActiveConf i h = differ h
+  where-running Originating Setup WaitCalled i h = differ h
+  where-running Destination Setup Idle i h = differ i
+  where-running Destination Setup WaitSetup i h = differ i
+  where-running Destination Setup WaitActive i h = differ h
+  where-running Destination Setup WaitAnswer i h = differ i
+  where-running Destination Setup Active i h = differ h
+  where-running Destination Setup WaitSetupConf i h = differ i
+  where-running Destination Setup WaitActiveConf i h = differ h
+  where-running Destination Setup WaitCalled i h = setup-wait-called
+  where-running Originating Answered Idle i h = differ i
+  where-running Originating Answered WaitSetup i h = differ i
+  where-running Originating Answered WaitActive i h = wait-active
+  where-running Originating Answered WaitAnswer i h = differ i
+  where-running Originating Answered Active i h = active
+  where-running Originating Answered WaitSetupConf i h = differ i
+  where-running Originating Answered WaitActiveConf i h = differ h
+  where-running Originating Answered WaitCalled i h = differ h
+  where-running Destination Answered Idle i h = differ i
+  where-running Destination Answered WaitSetup i h = differ i
+  where-running Destination Answered WaitActive i h = differ h
+  where-running Destination Answered WaitAnswer i h = differ i
+  where-running Destination Answered Active i h = active
+  where-running Destination Answered WaitSetupConf i h = differ i
+  where-running Destination Answered WaitActiveConf i h = wait-active-conf
+  where-running Destination Answered WaitCalled i h = answered-wait-called
+
+-- ---- What such an event is, by its tests
+
+a-request : (P : ℕ → Type 0) (q : ℕ) → asksReversal q ≡ true → P 1 → P 2 → P 3 → P q
+a-request P q h x y z =
+    either (eqb q 1) _ h (λ i. subst P (sym (eqb-true q 1 i)) x)
+    (λ j. either (eqb q 2) (eqb q 3) j (λ i. subst P (sym (eqb-true q 2 i)) y) (λ i. subst P (sym (eqb-true q 3 i)) z))
+
+any-invoke : (P : Component → Type 0) (x : Component) → isInvoke x ≡ true → ((n : ℕ) → P (Invoke n)) → P x
+any-invoke P (Absent n) h y = differ h
+any-invoke P (Invoke n) h y = y n
+any-invoke P (Result n) h y = differ h
+any-invoke P (Error n) h y = differ h
+any-invoke P (Reject n) h y = differ h
+any-invoke P (Unknown k n) h y = differ h
+
+-- ---- The answer
+
+module _ (c : Call) (v : validOf c ≡ true) (i : isRunning (c .stand .rev) ≡ true) where
+  -- a row gives the answer o to an event; a table has a row that does
+  abbrev Gives : Outcome → Event → Row → Type 0
+  Gives o e x = performOf c (planOf x (termsOf (c .side .flags) (c .stand) (readOf e))) (readOf e) ≡ o
+
+  abbrev Has : Outcome → Event → (Kind → Cue → Row) → Type 0
+  Has o e table = Gives o e (table (readOf e .kind) (cueOf (readOf e)))
+
+  answers : (o : Outcome) (e : Event) → Has o e waitActiveOf → Has o e activeOf → Has o e waitActiveConfOf → Has o e setupWaitCalledOf →
+      Has o e answeredWaitCalledOf → takesOf c e ≡ o
+  answers o e p q r s t =
+      where-running (Gives o e) (cueOf (readOf e)) p q r s t (c .side .role) (c .stand .phase) (c .stand .rev) i (valid-place c v)
+
+  asked : (q : ℕ) (n : Number) → asksReversal q ≡ true → takesOf c (Ask q n) ≡ toldRunning c
+  asked q n h =
+      a-request (λ (j : ℕ). takesOf c (Ask j n) ≡ toldRunning c) q h (answers (toldRunning c) (Ask 1 n) refl refl refl refl refl)
+      (answers (toldRunning c) (Ask 2 n) refl refl refl refl refl) (answers (toldRunning c) (Ask 3 n) refl refl refl refl refl)
+
+  invoked : (m : Message) → isFacility m ≡ true → isInvoke (m .component) ≡ true → takesOf c (Received m) ≡ sentRunning c
+  invoked m f h =
+      a-facility (λ (k : ℕ). Sent k (m .component)) (m .kind) f
+      (any-invoke (Sent 5) (m .component) h (λ n. answers (sentRunning c) (with-these 5 (Invoke n)) refl refl refl refl refl))
+    where
+      with-these : ℕ → Component → Event
+      with-these k x = Received (sent k (m .cause) x (m .parts) (m .calling) (m .called) (m .duration))
+
+      Sent : ℕ → Component → Type 0
+      Sent k x = takesOf c (with-these k x) ≡ sentRunning c
+
+pub running-here : (c : Call) (q : ℕ) (n : Number) → validOf c ≡ true → eventOk (Ask q n) ≡ true → isRunning (c .stand .rev) ≡ true →
+    asksReversal q ≡ true → stepOf c (Ask q n) ≡ toldRunning c
+running-here c q n v k i h = row-decides c (Ask q n) v k ∙ asked c v i q n h
+
+pub running-there : (c : Call) (m : Message) → validOf c ≡ true → eventOk (Received m) ≡ true → isRunning (c .stand .rev) ≡ true →
+    isFacility m ≡ true → isInvoke (m .component) ≡ true → stepOf c (Received m) ≡ sentRunning c
+running-there c m v k i f h = row-decides c (Received m) v k ∙ invoked c v i m f h
