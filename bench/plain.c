@@ -432,7 +432,7 @@ static enum answer send_error(struct actions *actions, unsigned error)
     return APPLIED;
 }
 
-/* O35, O37, D43, D53: own request A, B or C where REV is already running. */
+/* O35, O37, D43, D53, D57, D59: own request A, B or C where REV is already running. */
 static enum answer request_running(struct actions *actions, const struct event *request)
 {
     return request->item == REQUEST_BASIC ? NO_ROW : give_error(actions, RUNNING);
@@ -701,6 +701,7 @@ static enum answer destination_request(struct call *call, struct actions *action
     switch (call->rev) {
     case REV_WAIT_ACTIVE_CONF: /* D43 */
     case REV_ACTIVE:           /* D53 */
+    case REV_WAIT_CALLED:      /* D57, D59: the wait goes on, with what is pending */
         return request_running(actions, event);
     case REV_IDLE:
         if (call->phase != PHASE_ANSWERED || event->item < REQUEST_B)
@@ -815,6 +816,8 @@ static enum answer destination_fac(struct call *call, struct actions *actions, c
             return send_error(actions, NOT_ALLOWED);
         return ask_user(call, actions, event, REV_WAIT_ACTIVE_CONF); /* D28, D29 */
     case REV_WAIT_CALLED:
+        if (event->component == INVOKE) /* D58, D60: likewise */
+            return send_error(actions, RUNNING);
         if (call->phase == PHASE_SETUP) /* D18 to D20 */
             return called_response_d(call, actions, event);
         return called_response(call, actions, event); /* D45 to D50 */

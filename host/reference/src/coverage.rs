@@ -6,7 +6,7 @@ use std::fmt::Write;
 
 const GENERAL: usize = 5;
 const ORIGINATING: usize = 40;
-const DESTINATION: usize = 56;
+const DESTINATION: usize = 60;
 const ROWS: usize = GENERAL + ORIGINATING + DESTINATION;
 
 /// The numbers that a history's listing can give. Number 9 judges calls that a host made up, and 10 needs an
@@ -18,10 +18,30 @@ const NEEDING: [Row; 8] =
     [Row::O(7), Row::O(24), Row::O(26), Row::D(8), Row::D(19), Row::D(29), Row::D(46), Row::D(47)];
 const SUMMING: [Row; 2] = [Row::G(3), Row::D(47)];
 
+/// The rows that end a wait in WAIT-CALLED. That "the wait goes on" (02 #101) is seen only where one of them comes
+/// after a second press.
+const ENDING: [Row; 14] = [
+    Row::G(4),
+    Row::G(5),
+    Row::D(18),
+    Row::D(19),
+    Row::D(20),
+    Row::D(21),
+    Row::D(45),
+    Row::D(46),
+    Row::D(47),
+    Row::D(48),
+    Row::D(49),
+    Row::D(50),
+    Row::D(51),
+    Row::D(52),
+];
+
 pub struct Coverage {
     applied: [u64; ROWS],
     absent: [u64; ROWS],
     too_much: [u64; ROWS],
+    after_second_press: [u64; ROWS],
     numbers: [u64; 11],
     files: u64,
 }
@@ -46,7 +66,14 @@ fn label(place: usize) -> String {
 
 impl Coverage {
     pub fn new() -> Coverage {
-        Coverage { applied: [0; ROWS], absent: [0; ROWS], too_much: [0; ROWS], numbers: [0; 11], files: 0 }
+        Coverage {
+            applied: [0; ROWS],
+            absent: [0; ROWS],
+            too_much: [0; ROWS],
+            after_second_press: [0; ROWS],
+            numbers: [0; 11],
+            files: 0,
+        }
     }
 
     /// Counts one file's listing. Of a file that is refused only the 8 counts: nothing else of it is seen.
@@ -56,11 +83,19 @@ impl Coverage {
             self.numbers[8] += 1;
             return;
         };
+        let mut pressed = false;
         for &(given, row) in &listing.reached {
             self.numbers[given as usize] += 1;
             let Some(row) = row else { continue };
             match given {
-                Given::Applied => self.applied[place(row)] += 1,
+                Given::Applied => {
+                    self.applied[place(row)] += 1;
+                    if pressed && ENDING.contains(&row) {
+                        self.after_second_press[place(row)] += 1;
+                        pressed = false;
+                    }
+                    pressed |= matches!(row, Row::D(57..=60));
+                }
                 Given::PartAbsent => self.absent[place(row)] += 1,
                 Given::TooMuch => self.too_much[place(row)] += 1,
                 _ => {}
@@ -74,7 +109,9 @@ impl Coverage {
         let numbers = NUMBERS.map(|number| (format!("number {number}"), self.numbers[number]));
         let absent = NEEDING.map(|row| (format!("{} gives 4", label(place(row))), self.absent[place(row)]));
         let too_much = SUMMING.map(|row| (format!("{} gives 2", label(place(row))), self.too_much[place(row)]));
-        rows.chain(numbers).chain(absent).chain(too_much).collect()
+        let ended = ENDING
+            .map(|row| (format!("{} after a second press", label(place(row))), self.after_second_press[place(row)]));
+        rows.chain(numbers).chain(absent).chain(too_much).chain(ended).collect()
     }
 
     /// What was never reached.
@@ -114,11 +151,11 @@ mod tests {
     #[test]
     fn labels_follow_places() {
         for (row, name) in
-            [(Row::G(1), "G1"), (Row::G(5), "G5"), (Row::O(1), "O1"), (Row::D(1), "D1"), (Row::D(56), "D56")]
+            [(Row::G(1), "G1"), (Row::G(5), "G5"), (Row::O(1), "O1"), (Row::D(1), "D1"), (Row::D(60), "D60")]
         {
             assert_eq!(label(place(row)), name);
         }
-        assert_eq!(place(Row::D(56)), ROWS - 1);
+        assert_eq!(place(Row::D(60)), ROWS - 1);
     }
 
     /// A few thousand files reach everything that histories can reach.

@@ -7,7 +7,7 @@ mod wanted;
 
 use crate::listing;
 use crate::model::events::{self, DAY, LONGEST_FILE};
-use crate::model::{Call, Phase, YEAR};
+use crate::model::{flag, Call, Phase, Rev, YEAR};
 use random::Random;
 
 /// The file of a seed and an ordinal. Each can be made again without those before it.
@@ -26,6 +26,7 @@ pub fn file(seed: u64, ordinal: u64) -> Vec<u8> {
             damage(random, &mut bytes);
             bytes
         }
+        170..=199 => pressed_again(random),
         _ => history(random),
     }
 }
@@ -127,6 +128,27 @@ fn a_year(random: &mut Random) -> Vec<u8> {
             let seconds = writer.random.pick(&near);
             writer.push(fields::time(seconds));
         }
+    }
+    writer.bytes
+}
+
+/// A history of a destination that asks the originating exchange, in case D before the answer and in cases B and C
+/// after it. While it waits for the response, each record comes after a second press.
+fn pressed_again(random: &mut Random) -> Vec<u8> {
+    use flag::{CASE_D, INTERACTION, TRANSFER};
+    let flags = INTERACTION | random.pick(&[0, TRANSFER, TRANSFER, TRANSFER, CASE_D, CASE_D | TRANSFER]);
+    let own = random.digits();
+    let mut writer = Writer::new(random);
+    writer.push(fields::opening_of(1, flags, own));
+    writer.draw(wanted::plain_iam);
+    for _ in 0..10 {
+        if (writer.call.phase, writer.call.rev) == (Phase::Answered, Rev::Idle) {
+            writer.draw(wanted::first_press);
+        }
+        if matches!(writer.call.rev, Rev::WaitCalled(_)) {
+            writer.draw(wanted::second_press);
+        }
+        writer.step();
     }
     writer.bytes
 }

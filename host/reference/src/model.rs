@@ -1,5 +1,6 @@
-//! The rules of document 01 for one call at one exchange, and the clause (ITU-T Q.736 clause 3, document 001) behind
-//! them. Comments cite 01 by its headings or words, and the clause by its numbers.
+//! The rules of document 01 for one call at one exchange, as the requests of document 02 change them, and the clause
+//! (ITU-T Q.736 clause 3, document 001) behind them. Comments cite 01 by its headings or words, 02 by its requests'
+//! numbers, and the clause by its own.
 //!
 //! The model covers histories: the calls that come from an event file, one record after another. Number 9 (a call
 //! that a host made up) is therefore left out, and of the numbers a call holds only its own is kept, since it alone
@@ -474,6 +475,36 @@ mod tests {
         let taken = result(number, Some(YEAR));
         assert_eq!(meters(taken.call), (0, YEAR, 0));
         assert_eq!(taken.actions, [Action::ChargeCalled, Action::NotifyAccepted]);
+    }
+
+    /// 02 #101: whatever comes again is answered alike, with any flags and without parts, and the wait goes on with
+    /// all that is pending: B asked and C pressed stays B.
+    #[test]
+    fn the_second_press() {
+        let requests = [Ask::A, Ask::B, Ask::C].map(Event::Ask);
+        let operations = [Operation::Setup, Operation::Active, Operation::Called];
+        let said = Message { name: Name::Fac, cause: 0, component: Component::Error(12), parts: Parts::default() };
+        let plain_call = [plain(Name::Iam), Event::Access(Access::Answer)];
+        for (flags, rows, before) in [
+            (24, [Row::D(57), Row::D(58)], vec![plain(Name::Iam)]),
+            (27, [Row::D(57), Row::D(58)], vec![plain(Name::Iam)]),
+            (8, [Row::D(59), Row::D(60)], [&plain_call[..], &[Event::Ask(Ask::B)]].concat()),
+            (15, [Row::D(59), Row::D(60)], [&plain_call[..], &[Event::Ask(Ask::C)]].concat()),
+        ] {
+            let waiting = after(opened(Role::Destination, flags), &before);
+            let goes_on =
+                |row, action| Answer { given: Given::Applied, row: Some(row), call: waiting, actions: vec![action] };
+            for request in &requests {
+                assert_eq!(waiting.answer(request), goes_on(rows[0], Action::AccessError(12)));
+            }
+            for operation in operations {
+                let invoke = |name| message(name, Component::Invoke(operation), Parts::default());
+                assert_eq!(waiting.answer(&invoke(Name::Fac)), goes_on(rows[1], Action::Send(said)));
+                assert_eq!(waiting.answer(&invoke(Name::Rel)).call.phase, Phase::Cleared);
+                assert_eq!(waiting.answer(&invoke(Name::Anm)).given, Given::NoRow);
+            }
+            assert_eq!(waiting.answer(&Event::Ask(Ask::Basic)).given, Given::NoRow);
+        }
     }
 
     /// 10 is a host's alone, but the order puts it before 2.

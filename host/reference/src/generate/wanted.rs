@@ -51,6 +51,16 @@ const CLEARINGS: Wants = &[
     (1, Say(REL, REJECT, 0)),
 ];
 
+/// What a destination in WAIT-CALLED answers with REV Is Already Running (02 #101).
+const SECOND_PRESSES: Wants = &[
+    (2, Ask(1)),
+    (4, Ask(2)),
+    (4, Ask(3)),
+    (1, Say(FAC, INVOKE, SETUP)),
+    (1, Say(FAC, INVOKE, ACTIVE)),
+    (4, Say(FAC, INVOKE, CALLED)),
+];
+
 /// Each state's records, and how often in a hundred a clearing comes instead.
 fn wants(call: &Call) -> (Wants, u64) {
     use {Role::Destination, Role::Originating};
@@ -155,7 +165,13 @@ fn wants(call: &Call) -> (Wants, u64) {
                 (3, Say(FAC, RESULT, ACTIVE)),
                 (3, Say(FAC, PLAIN, 0)),
                 (3, Access(ANSWER)),
-                (3, Ask(2)),
+                (2, Ask(0)),
+                (4, Ask(1)),
+                (4, Ask(2)),
+                (4, Ask(3)),
+                (4, Say(FAC, INVOKE, SETUP)),
+                (4, Say(FAC, INVOKE, ACTIVE)),
+                (4, Say(FAC, INVOKE, CALLED)),
             ],
             10,
         ),
@@ -196,9 +212,13 @@ fn wants(call: &Call) -> (Wants, u64) {
                 (8, Expiry),
                 (3, Say(FAC, RESULT, ACTIVE)),
                 (3, Say(FAC, PLAIN, 0)),
-                (3, Say(FAC, INVOKE, ACTIVE)),
-                (4, Ask(2)),
-                (3, Ask(3)),
+                (2, Ask(0)),
+                (4, Ask(1)),
+                (8, Ask(2)),
+                (8, Ask(3)),
+                (4, Say(FAC, INVOKE, SETUP)),
+                (4, Say(FAC, INVOKE, ACTIVE)),
+                (4, Say(FAC, INVOKE, CALLED)),
             ],
             8,
         ),
@@ -268,7 +288,29 @@ fn draw(random: &mut Random, wants: Wants) -> Want {
 pub fn record(random: &mut Random, call: &Call) -> Vec<u8> {
     let (wants, clearings) = wants(call);
     let wants = if random.below(100) < clearings { CLEARINGS } else { wants };
-    match draw(random, wants) {
+    let want = draw(random, wants);
+    make(random, want)
+}
+
+/// An IAM with no component.
+pub fn plain_iam(random: &mut Random) -> Vec<u8> {
+    make(random, Say(IAM, PLAIN, 0))
+}
+
+/// The called user's request B or C.
+pub fn first_press(random: &mut Random) -> Vec<u8> {
+    let want = random.pick(&[Ask(2), Ask(3)]);
+    make(random, want)
+}
+
+/// What comes again, from either side, while such a request waits.
+pub fn second_press(random: &mut Random) -> Vec<u8> {
+    let want = draw(random, SECOND_PRESSES);
+    make(random, want)
+}
+
+fn make(random: &mut Random, want: Want) -> Vec<u8> {
+    match want {
         Ask(request) => fields::good_ask(random, request),
         Say(name, component, operation) => {
             let parts = parts(random, component, operation);

@@ -126,9 +126,11 @@ fn wait_setup_conf(call: Call, event: &Event, transfer: bool) -> Found {
     }
 }
 
-/// Case D: waiting for the response to this exchange's invoke CALLED, before the answer.
+/// Case D: waiting for the response to this exchange's invoke CALLED, before the answer. "A, B or C from her, or any
+/// invoke in FAC, in WAIT-CALLED now gets REV Is Already Running and the wait goes on" (02 #101).
 fn wait_called_setup(call: Call, event: &Event) -> Found {
     let failed = |row| Ok(call.row(row).clear().release(cause::REJECTED, Component::None));
+    let second_press = || already_running(call, event, Row::D(57), Row::D(58));
     match event {
         // 3.5.2.5.5.2 ii
         Event::Expiry => failed(Row::D(21)),
@@ -146,9 +148,9 @@ fn wait_called_setup(call: Call, event: &Event) -> Found {
                 .state(Phase::Setup, Rev::WaitAnswer { transfer: false })),
             // 3.5.2.5.5.2 i
             Component::Error(_) | Component::Reject => failed(Row::D(20)),
-            _ => Err(Refusal::NoRow),
+            _ => second_press(),
         },
-        _ => Err(Refusal::NoRow),
+        _ => second_press(),
     }
 }
 
@@ -260,10 +262,11 @@ fn already_running(call: Call, event: &Event, asked: Row, invoked: Row) -> Found
     }
 }
 
-/// Cases B and C: waiting for the response to this exchange's invoke CALLED. "In WAIT-CALLED a second request has no
-/// row."
+/// Cases B and C: waiting for the response to this exchange's invoke CALLED. "A, B or C from her, or any invoke in FAC,
+/// in WAIT-CALLED now gets REV Is Already Running and the wait goes on" (02 #101): the case stays the one first asked.
 fn wait_called(call: Call, event: &Event, case: Case) -> Found {
     let rejected = |row, number| Ok(call.row(row).act(Action::AccessError(number)).state(Phase::Answered, Rev::Idle));
+    let second_press = || already_running(call, event, Row::D(59), Row::D(60));
     match event {
         // 3.5.2.3.5.2 c, 3.5.2.4.5.2 c
         Event::Expiry => rejected(Row::D(51), error::NOT_AVAILABLE),
@@ -282,9 +285,9 @@ fn wait_called(call: Call, event: &Event, case: Case) -> Found {
                 .act(Action::AccessError(error::BASIC_SERVICE))
                 .act(Action::AccessRel(message.cause))
                 .clear()),
-            _ => Err(Refusal::NoRow),
+            _ => second_press(),
         },
-        _ => Err(Refusal::NoRow),
+        _ => second_press(),
     }
 }
 
