@@ -194,7 +194,7 @@ BEGIN {
 
     for (i = 1; i <= 5; i++) every[++rows] = "G" i
     for (i = 1; i <= 40; i++) every[++rows] = "O" i
-    for (i = 1; i <= 56; i++) every[++rows] = "D" i
+    for (i = 1; i <= 60; i++) every[++rows] = "D" i
     for (i = 1; i <= rows; i++) is_row[every[i]] = 1
 }
 
@@ -325,14 +325,14 @@ name == "ROWS.md" && both != "" {
     for (i = 2; i <= n; i += 2) both_at[both, part[i]] = 1
     next
 }
-# where each sentence went: clause: item labels; item labels. clause: ..
-name == "ROWS.md" && /^- 3\.5\.2\./ {
+# where each sentence went: clause: item labels; item labels. clause: ..; a clause of 001, or a request of 02
+name == "ROWS.md" && /^- (3\.5\.2\.|02 #)/ {
     text = substr($0, 3)
     gsub(/\. 3\.5\.2/, "; 3.5.2", text)
     sub(/\.$/, "", text)
     n = split(text, segment, / *; */)
     for (i = 1; i <= n; i++) {
-        if (match(segment[i], /^3\.5\.2\.[1-5]\.[15]\.[12]: */)) {
+        if (match(segment[i], /^(3\.5\.2\.[1-5]\.[15]\.[12]|02 #[0-9]+): */)) {
             clause = substr(segment[i], 1, RLENGTH)
             sub(/:.*/, "", clause)
             listed[clause]++
@@ -391,7 +391,7 @@ function within(part, text,   n, i, word) {
 
 function clauses_of(text,   n, i, part, out) {
     n = split(text, part, /[ ,;]+/)
-    for (i = 1; i <= n; i++) if (part[i] ~ /^3\.5\.2\./) out = out " " part[i]
+    for (i = 1; i <= n; i++) if (part[i] ~ /^(3\.5\.2\.|#[0-9])/) out = out " " part[i]
     return out
 }
 
@@ -656,6 +656,11 @@ END {
                 said[every[i], clause] = 1
                 if (!((every[i], clause) in went)) wrong("docs/ROWS.md: " clause " went not to " every[i] ", whose row names it")
             }
+        }
+        if (match(sentence[every[i]], /02 #[0-9]+/)) {
+            clause = substr(sentence[every[i]], RSTART, RLENGTH)
+            said[every[i], clause] = 1
+            if (!((every[i], clause) in went)) wrong("docs/ROWS.md: " clause " went not to " every[i] ", whose row names it")
         }
     }
     for (key in went) {
