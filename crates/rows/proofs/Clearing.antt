@@ -41,6 +41,7 @@ use Rattle.rows.specs.declared.Role.{Role}
 use Rattle.rows.specs.declared.Role.the-variants.{Originating, Destination}
 use Rattle.rows.proofs.Answers.{planFor, row-decides, settled}
 use Rattle.rows.proofs.Found.{implies, so, Test, holds}
+use Rattle.rows.proofs.Placed.{placed}
 use Rattle.rows.proofs.Progress.{valid-place, standing, a-facility, a-result, reversal-takes-effect}
 use Rattle.rows.proofs.Truth.{differ, left, right}
 
@@ -54,49 +55,22 @@ module _ (f : Flags) (a b : Bool) (mt : Meters) (u v w : Number) where
   abbrev Over : Role → Phase → RevState → Event → Type 0
   Over r ph rv e = Clears (takesOf (standing r f ph rv a b mt u v w) e)
 
-  cleared-here : (n : ℕ) (r : Role) (ph : Phase) (rv : RevState) → inCall ph ≡ true → placedOf r ph rv ≡ true → Over r ph rv (FromAccess 4 n)
-  cleared-here n r Unopened rv i h = differ i
-  cleared-here n r Null rv i h = differ i
-  cleared-here n r Cleared rv i h = differ i
-  cleared-here n Originating Setup Idle i h = record { number = refl; phase = refl }
-  cleared-here n Originating Setup WaitSetup i h = record { number = refl; phase = refl }
-  cleared-here n Originating Setup WaitActive i h = differ h
-  cleared-here n Originating Setup WaitAnswer i h = record { number = refl; phase = refl }
-  cleared-here n Originating Setup Active i h = differ h
-  cleared-here n Originating Setup WaitSetupConf i h = differ h
-  cleared-here n Originating Setup WaitActiveConf i h = differ h
-  cleared-here n Originating Setup WaitCalled i h = differ h
-  cleared-here n Destination Setup Idle i h = record { number = refl; phase = refl }
-  cleared-here n Destination Setup WaitSetup i h = differ h
-  cleared-here n Destination Setup WaitActive i h = differ h
-  cleared-here n Destination Setup WaitAnswer i h = record { number = refl; phase = refl }
-  cleared-here n Destination Setup Active i h = differ h
-  cleared-here n Destination Setup WaitSetupConf i h = record { number = refl; phase = refl }
-  cleared-here n Destination Setup WaitActiveConf i h = differ h
-  cleared-here n Destination Setup WaitCalled i h = record { number = refl; phase = refl }
-  cleared-here n Originating Answered Idle i h = record { number = refl; phase = refl }
-  cleared-here n Originating Answered WaitSetup i h = differ h
-  cleared-here n Originating Answered WaitActive i h = record { number = refl; phase = refl }
-  cleared-here n Originating Answered WaitAnswer i h = differ h
-  cleared-here n Originating Answered Active i h = record { number = refl; phase = refl }
-  cleared-here n Originating Answered WaitSetupConf i h = differ h
-  cleared-here n Originating Answered WaitActiveConf i h = differ h
-  cleared-here n Originating Answered WaitCalled i h = differ h
-  cleared-here n Destination Answered Idle i h = record { number = refl; phase = refl }
-  cleared-here n Destination Answered WaitSetup i h = differ h
-  cleared-here n Destination Answered WaitActive i h = differ h
-  cleared-here n Destination Answered WaitAnswer i h = differ h
-  cleared-here n Destination Answered Active i h = record { number = refl; phase = refl }
-  cleared-here n Destination Answered WaitSetupConf i h = differ h
-  cleared-here n Destination Answered WaitActiveConf i h = record { number = refl; phase = refl }
-  cleared-here n Destination Answered WaitCalled i h = record { number = refl; phase = refl }
+  cleared-here : (n : ℕ) (r : Role) (ph : Phase) (rv : RevState) → placedOf r ph rv ≡ true → inCall ph ≡ true → Over r ph rv (FromAccess 4 n)
+  cleared-here n =
+      placed (λ (r : Role) (ph : Phase) (rv : RevState). inCall ph ≡ true → Over r ph rv (FromAccess 4 n))
+      (λ r i. differ i) (λ r i. differ i) (λ r i. differ i)
+      (λ i. record { number = refl; phase = refl }) (λ i. record { number = refl; phase = refl }) (λ i. record { number = refl; phase = refl })
+      (λ i. record { number = refl; phase = refl }) (λ i. record { number = refl; phase = refl }) (λ i. record { number = refl; phase = refl })
+      (λ i. record { number = refl; phase = refl }) (λ i. record { number = refl; phase = refl }) (λ i. record { number = refl; phase = refl })
+      (λ i. record { number = refl; phase = refl }) (λ i. record { number = refl; phase = refl }) (λ i. record { number = refl; phase = refl })
+      (λ i. record { number = refl; phase = refl }) (λ i. record { number = refl; phase = refl })
 
 pub access-clears : (c : Call) (n : ℕ) → validOf c ≡ true → eventOk (FromAccess 4 n) ≡ true → inCall (c .stand .phase) ≡ true →
     Clears (stepOf c (FromAccess 4 n))
 access-clears c n v k i =
     subst Clears (sym (row-decides c (FromAccess 4 n) v k))
     (cleared-here (c .side .flags) (c .stand .agreed) (c .stand .rest) (c .meters) (c .side .own) (c .side .calling) (c .side .called) n
-    (c .side .role) (c .stand .phase) (c .stand .rev) i (valid-place c v))
+    (c .side .role) (c .stand .phase) (c .stand .rev) (valid-place c v) i)
 
 abbrev isRel : Kind → Bool
 isRel Kind.Opens = false

@@ -8,6 +8,7 @@ pub mod Found
 pub mod Opened
 pub mod Payers
 pub mod Phases
+pub mod Placed
 pub mod Progress
 pub mod Refusals
 pub mod Reversal

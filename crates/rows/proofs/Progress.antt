@@ -13,7 +13,7 @@ use Rattle.meters.specs.declared.Metered.{Metered}
 use Rattle.meters.specs.declared.Meters.{Meters}
 use Rattle.meters.specs.declared.Payer.{Payer}
 use Rattle.meters.specs.declared.Payer.the-variants.{Nobody, Caller, Called, Far}
-use Rattle.rows.specs.Bill.{bitAt, lowestBit, resultTo, invokeOf, turnedTo}
+use Rattle.rows.specs.Bill.{bitAt, lowestBit, resultTo, invokeOf, turnedTo, isAnswered}
 use Rattle.rows.specs.Perform.{settledOf, performOf}
 use Rattle.rows.specs.Promises.{sent, holding, isAnswer, isFacility, bare, setupTurns, asksFully, answeredTurns, acceptsFully}
 use Rattle.rows.specs.Promises.{calledTurns, setupTold, answeredTold, messageTurns, accessTurns, takesEffect, InEffect}
@@ -47,6 +47,7 @@ use Rattle.rows.specs.declared.Role.{Role}
 use Rattle.rows.specs.declared.Role.the-variants.{Originating, Destination}
 use Rattle.rows.specs.declared.Row.the-variants.{TimeCounts}
 use Rattle.rows.proofs.Answers.{row-decides}
+use Rattle.rows.proofs.Placed.{placed}
 use Rattle.rows.proofs.Truth.{differ, left, right, either}
 
 -- ---- What 9 leaves of a call: its place in the table, its sum, and at a destination no caller's seconds
@@ -78,41 +79,22 @@ abbrev pub standing : Role → Flags → Phase → RevState → Bool → Bool �
 standing r f ph rv a b m u v w = holding r f (record { phase = ph; rev = rv; agreed = a; rest = b }) m u v w
 
 module _ (f : Flags) (a b : Bool) (m : Meters) (u v w : Number) (s : ℕ) (p : m .payer ≡ Nobody → ⊥) (l : totalOf m + s ≤ limit) where
-  abbrev Accepts : Role → RevState → Type 0
-  Accepts r rv = takesOf (standing r f Answered rv a b m u v w) (Time s) .number ≡ 0
-
-  -- in every REV state that ANSWERED has
-  accepts : (r : Role) (rv : RevState) → placedOf r Answered rv ≡ true → Accepts r rv
-  accepts Originating Idle h = counts _ s p l
-  accepts Originating WaitSetup h = differ h
-  accepts Originating WaitActive h = counts _ s p l
-  accepts Originating WaitAnswer h = differ h
-  accepts Originating Active h = counts _ s p l
-  accepts Originating WaitSetupConf h = differ h
-  accepts Originating WaitActiveConf h = differ h
-  accepts Originating WaitCalled h = differ h
-  accepts Destination Idle h = counts _ s p l
-  accepts Destination WaitSetup h = differ h
-  accepts Destination WaitActive h = differ h
-  accepts Destination WaitAnswer h = differ h
-  accepts Destination Active h = counts _ s p l
-  accepts Destination WaitSetupConf h = differ h
-  accepts Destination WaitActiveConf h = counts _ s p l
-  accepts Destination WaitCalled h = counts _ s p l
+  -- in every place that ANSWERED has
+  accepts : (r : Role) (ph : Phase) (rv : RevState) → placedOf r ph rv ≡ true → isAnswered ph ≡ true →
+      takesOf (standing r f ph rv a b m u v w) (Time s) .number ≡ 0
+  accepts =
+      placed (λ (r : Role) (ph : Phase) (rv : RevState). isAnswered ph ≡ true → takesOf (standing r f ph rv a b m u v w) (Time s) .number ≡ 0)
+      (λ r i. differ i) (λ r i. differ i) (λ r i. differ i)
+      differ differ differ (λ i. counts _ s p l) (λ i. counts _ s p l) (λ i. counts _ s p l)
+      differ differ differ differ (λ i. counts _ s p l) (λ i. counts _ s p l) (λ i. counts _ s p l) (λ i. counts _ s p l)
 
 -- in ANSWERED, where somebody pays, a time in range that fits the limit is accepted
 pub time-accepted : (c : Call) (s : ℕ) → validOf c ≡ true → c .stand .phase ≡ Answered → (c .meters .payer ≡ Nobody → ⊥) → s ≤ 86400 →
     totalOf (c .meters) + s ≤ limit → stepOf c (Time s) .number ≡ 0
 time-accepted c s v h p d l =
     ap (λ (o : Outcome). o .number) (row-decides c (Time s) v (le-leb s 86400 d))
-    ∙ subst At (sym h)
-    (accepts (c .side .flags) (c .stand .agreed) (c .stand .rest) (c .meters) (c .side .own) (c .side .calling) (c .side .called) s p l (c .side .role) (c .stand .rev))
-    (valid-place c v)
-  where
-    At : Phase → Type 0
-    At ph =
-        placedOf (c .side .role) ph (c .stand .rev) ≡ true →
-        takesOf (standing (c .side .role) (c .side .flags) ph (c .stand .rev) (c .stand .agreed) (c .stand .rest) (c .meters) (c .side .own) (c .side .calling) (c .side .called)) (Time s) .number ≡ 0
+    ∙ accepts (c .side .flags) (c .stand .agreed) (c .stand .rest) (c .meters) (c .side .own) (c .side .calling) (c .side .called) s p l
+    (c .side .role) (c .stand .phase) (c .stand .rev) (valid-place c v) (ap isAnswered h)
 
 -- ---- Plans that lead to ACTIVE do
 

@@ -12,7 +12,7 @@ use Rattle.rows.specs.Promises.{sent, isFacility, isRunning, asksReversa
 use Rattle.rows.specs.Read.{readOf, cueOf, termsOf}
 use Rattle.rows.specs.Rows.{planOf}
 use Rattle.rows.specs.Step.{takesOf, stepOf}
-use Rattle.rows.specs.Valid.{idleOnly, placedOf, validOf, eventOk}
+use Rattle.rows.specs.Valid.{placedOf, validOf, eventOk}
 use Rattle.rows.specs.declared.Call.{Call}
 use Rattle.rows.specs.declared.Component.{Component}
 use Rattle.rows.specs.declared.Component.the-variants.{Absent, Invoke, Result, Error, Reject, Unknown}
@@ -24,68 +24,25 @@ use Rattle.rows.specs.declared.Message.{Message}
 use Rattle.rows.specs.declared.Number.{Number}
 use Rattle.rows.specs.declared.Outcome.{Outcome}
 use Rattle.rows.specs.declared.Phase.{Phase}
-use Rattle.rows.specs.declared.Phase.the-variants.{Unopened, Null, Setup, Answered, Cleared}
 use Rattle.rows.specs.declared.RevState.{RevState}
-use Rattle.rows.specs.declared.RevState.the-variants.{Idle, WaitSetup, WaitActive, WaitAnswer, Active, WaitSetupConf, WaitActiveConf}
-use Rattle.rows.specs.declared.RevState.the-variants.{WaitCalled}
 use Rattle.rows.specs.declared.Role.{Role}
-use Rattle.rows.specs.declared.Role.the-variants.{Originating, Destination}
 use Rattle.rows.specs.declared.Row.{Row}
 use Rattle.rows.proofs.Answers.{row-decides}
+use Rattle.rows.proofs.Placed.{placed}
 use Rattle.rows.proofs.Progress.{valid-place, a-facility}
 use Rattle.rows.proofs.Truth.{differ, either}
 
 -- ---- What holds of the five tables holds wherever it is running
 
-not-idle : {A : Type 0} (rv : RevState) → isRunning rv ≡ true → idleOnly rv ≡ true → A
-not-idle Idle i h = differ i
-not-idle WaitSetup i h = differ i
-not-idle WaitActive i h = differ h
-not-idle WaitAnswer i h = differ i
-not-idle Active i h = differ h
-not-idle WaitSetupConf i h = differ i
-not-idle WaitActiveConf i h = differ h
-not-idle WaitCalled i h = differ h
-
 module _ (P : Row → Type 0) (e : Cue) (wait-active : P (waitActiveOf (e .kind) e)) (active : P (activeOf (e .kind) e))
     (wait-active-conf : P (waitActiveConfOf (e .kind) e)) (setup-wait-called : P (setupWaitCalledOf (e .kind) e))
     (answered-wait-called : P (answeredWaitCalledOf (e .kind) e)) where
-  where-running : (r : Role) (ph : Phase) (rv : RevState) → isRunning rv ≡ true → placedOf r ph rv ≡ true → P (rowForOf r ph rv e)
-  where-running r Unopened rv i h = not-idle rv i h
-  where-running r Null rv i h = not-idle rv i h
-  where-running r Cleared rv i h = not-idle rv i h
-  where-running Originating Setup Idle i h = differ i
-  where-running Originating Setup WaitSetup i h = differ i
-  where-running Originating Setup WaitActive i h = differ h
-  where-running Originating Setup WaitAnswer i h = differ i
-  where-running Originating Setup Active i h = differ h
-  where-running Originating Setup WaitSetupConf i h = differ i
-  where-running Originating Setup WaitActiveConf i h = differ h
-  where-running Originating Setup WaitCalled i h = differ h
-  where-running Destination Setup Idle i h = differ i
-  where-running Destination Setup WaitSetup i h = differ i
-  where-running Destination Setup WaitActive i h = differ h
-  where-running Destination Setup WaitAnswer i h = differ i
-  where-running Destination Setup Active i h = differ h
-  where-running Destination Setup WaitSetupConf i h = differ i
-  where-running Destination Setup WaitActiveConf i h = differ h
-  where-running Destination Setup WaitCalled i h = setup-wait-called
-  where-running Originating Answered Idle i h = differ i
-  where-running Originating Answered WaitSetup i h = differ i
-  where-running Originating Answered WaitActive i h = wait-active
-  where-running Originating Answered WaitAnswer i h = differ i
-  where-running Originating Answered Active i h = active
-  where-running Originating Answered WaitSetupConf i h = differ i
-  where-running Originating Answered WaitActiveConf i h = differ h
-  where-running Originating Answered WaitCalled i h = differ h
-  where-running Destination Answered Idle i h = differ i
-  where-running Destination Answered WaitSetup i h = differ i
-  where-running Destination Answered WaitActive i h = differ h
-  where-running Destination Answered WaitAnswer i h = differ i
-  where-running Destination Answered Active i h = active
-  where-running Destination Answered WaitSetupConf i h = differ i
-  where-running Destination Answered WaitActiveConf i h = wait-active-conf
-  where-running Destination Answered WaitCalled i h = answered-wait-called
+  where-running : (r : Role) (ph : Phase) (rv : RevState) → placedOf r ph rv ≡ true → isRunning rv ≡ true → P (rowForOf r ph rv e)
+  where-running =
+      placed (λ (r : Role) (ph : Phase) (rv : RevState). isRunning rv ≡ true → P (rowForOf r ph rv e))
+      (λ r i. differ i) (λ r i. differ i) (λ r i. differ i)
+      differ differ differ differ (λ i. wait-active) (λ i. active)
+      differ differ (λ i. setup-wait-called) differ differ (λ i. wait-active-conf) (λ i. answered-wait-called) (λ i. active)
 
 -- ---- What such an event is, by its tests
 
@@ -115,7 +72,7 @@ module _ (c : Call) (v : validOf c ≡ true) (i : isRunning (c .stand .rev) ≡ 
   answers : (o : Outcome) (e : Event) → Has o e waitActiveOf → Has o e activeOf → Has o e waitActiveConfOf → Has o e setupWaitCalledOf →
       Has o e answeredWaitCalledOf → takesOf c e ≡ o
   answers o e p q r s t =
-      where-running (Gives o e) (cueOf (readOf e)) p q r s t (c .side .role) (c .stand .phase) (c .stand .rev) i (valid-place c v)
+      where-running (Gives o e) (cueOf (readOf e)) p q r s t (c .side .role) (c .stand .phase) (c .stand .rev) (valid-place c v) i
 
   asked : (q : ℕ) (n : Number) → asksReversal q ≡ true → takesOf c (Ask q n) ≡ toldRunning c
   asked q n h =
