@@ -7,28 +7,27 @@ use native.Mathlib.Omega.{arith}
 use lib.Dec.{eqb, leb}
 use borrow.Author.Tests.{eqb-true, leb-true, le-leb}
 use Rattle.meters.proofs.Laws.{gives-fit, entire-fits, duration-fits}
-use Rattle.meters.specs.Meters.{limit, totalOf, withinOf}
+use Rattle.meters.specs.Meters.{limit, totalOf}
 use Rattle.meters.specs.declared.Change.the-variants.{TimePasses}
 use Rattle.meters.specs.declared.Metered.{Metered}
 use Rattle.meters.specs.declared.Meters.{Meters}
-use Rattle.meters.specs.declared.Payer.{Payer}
-use Rattle.meters.specs.declared.Payer.the-variants.{Nobody, Caller, Called, Far}
-use Rattle.rows.specs.Bill.{bitAt, lowestBit, resultTo, invokeOf, turnedTo, isAnswered}
+use Rattle.meters.specs.declared.Payer.the-variants.{Nobody, Called, Far}
+use Rattle.rows.specs.Bill.{resultTo, invokeOf, turnedTo, isAnswered}
 use Rattle.rows.specs.Perform.{settledOf, performOf}
-use Rattle.rows.specs.Promises.{sent, holding, isAnswer, isFacility, bare, setupTurns, asksFully, answeredTurns, acceptsFully}
+use Rattle.rows.specs.Promises.{sent, holding, isAnswer, isFacility, bare, setupTurns, answeredTurns}
 use Rattle.rows.specs.Promises.{calledTurns, setupTold, answeredTold, messageTurns, accessTurns, takesEffect, InEffect}
 use Rattle.rows.specs.Read.{bit, lowest, readOf, interactionBy, modeBy, extentBy, termsOf}
 use Rattle.rows.specs.Rows
 use Rattle.rows.specs.Step.{takesOf, stepOf}
-use Rattle.rows.specs.Valid.{placedOf, meteredOf, payingOf, validOf, eventOk}
+use Rattle.rows.specs.Valid.{placedOf, meteredOf, validOf, eventOk}
 use Rattle.rows.specs.declared.Call.{Call}
 use Rattle.rows.specs.declared.Component.{Component}
 use Rattle.rows.specs.declared.Component.the-variants.{Absent, Invoke, Result, Error, Reject, Unknown}
 use Rattle.rows.specs.declared.Event.{Event}
 use Rattle.rows.specs.declared.Event.the-variants.{Opening, Ask, Received, FromAccess, Expiry, Time}
-use Rattle.rows.specs.declared.Extent.the-variants.{Rest, Entire}
+use Rattle.rows.specs.declared.Extent.the-variants.{Entire}
 use Rattle.rows.specs.declared.Flags.{Flags}
-use Rattle.rows.specs.declared.Interaction.the-variants.{Allowed, NotAllowed}
+use Rattle.rows.specs.declared.Interaction.the-variants.{Allowed}
 use Rattle.rows.specs.declared.Message.{Message}
 use Rattle.rows.specs.declared.Mode.{Mode}
 use Rattle.rows.specs.declared.Mode.the-variants.{NoTransfer, Transfer}
