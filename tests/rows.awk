@@ -304,7 +304,7 @@ name == "rows.rt" && inside == "plan_of" && /, \/\/ / {
 
 # ---- The page
 
-name == "ROWS.md" && /^## / { role = tolower($2); heading = ""; next }
+name == "ROWS.md" && /^## / { role = tolower($2); heading = ""; lists = /^## Where each sentence/; next }
 name == "ROWS.md" && /^### / { heading = substr($0, 5); next }
 name == "ROWS.md" && /^\| [GOD][0-9]+ \|/ {
     if (split($0, column, / *\| */) != 10) wrong("docs/ROWS.md: " $2 " has not eight columns")
@@ -326,7 +326,7 @@ name == "ROWS.md" && both != "" {
     next
 }
 # where each sentence went: clause: item labels; item labels. clause: ..; a clause of 001, or a request of 02
-name == "ROWS.md" && /^- (3\.5\.2\.|02 #)/ {
+name == "ROWS.md" && lists && /^- (3\.5\.2\.|02 #)/ {
     text = substr($0, 3)
     gsub(/\. 3\.5\.2/, "; 3.5.2", text)
     sub(/\.$/, "", text)

@@ -57,7 +57,7 @@ use Rattle.rows.specs.declared.Service.the-variants.{OnRequest, Uncondit
 use Rattle.rows.specs.declared.Role.the-variants.{Destination}
 use Rattle.rows.specs.declared.Row.{Row}
 use Rattle.rows.proofs.Found.{split, fork, guarded}
-use Rattle.rows.proofs.Truth.{left, right}
+use Rattle.rows.proofs.Truth.{left, right, neither-left, neither-right}
 use Rattle.rows.proofs.Answers.{settled}
 use Rattle.rows.proofs.Stays.{not-callers}
 use Rattle.rows.proofs.Whole.{by-kind}
@@ -314,17 +314,9 @@ kinds P k l u p q s t true a r h i j = p (eqb k 5)
 kinds P k l u p q s t false true r h i j = q (eqb k 5)
 kinds P k l u p q s t false false true h i j = s (eqb k 5)
 kinds P k l u p q s t false false false h i j =
-    let n2 = eqb-false k 2 (or-left (eqb k 2) _ i) in
-    let n3 = eqb-false k 3 (or-right (eqb k 2) _ i) in
+    let n2 = eqb-false k 2 (neither-left (eqb k 2) _ i) in
+    let n3 = eqb-false k 3 (neither-right (eqb k 2) _ i) in
     subst (P Fac) (sym (eq-eqb k 5 (omega (arith, eqb-false k 1 h, n2, n3, eqb-false k 4 j)))) t
-  where
-    or-left : (a b : Bool) → (a || b) ≡ false → a ≡ false
-    or-left true b e = e
-    or-left false b e = refl
-
-    or-right : (a b : Bool) → (a || b) ≡ false → b ≡ false
-    or-right true b e = cc
-    or-right false b e = e
 
 module _ (f : ℕ) (l : Message) (ok : messageOk l ≡ true) where
   abbrev word : Heard

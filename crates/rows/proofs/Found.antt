@@ -2,7 +2,7 @@
 -- (Find.antt) and on every plan that a row may make (Rows.antt), at every role, phase and REV state.
 -- A test that holds there holds of the plan for any event and any terms.
 -- Assumes nothing.
-use mathlib.Core.Path.{_≡_, refl}
+use mathlib.Core.Path.{_≡_, refl, sym}
 use mathlib.Core.Bool.{Bool, true, false, _&&_, not}
 use Prim.Native.Nat.{ℕ}
 use native.Mathlib.Omega.{arith}
@@ -61,7 +61,7 @@ use Rattle.rows.specs.declared.Service.the-variants.{OnRequest, Uncondit
 use Rattle.rows.specs.declared.Stand.{Stand}
 use Rattle.rows.specs.declared.Terms.{Terms}
 use Rattle.rows.proofs.Answers.{planFor, settled}
-use Rattle.rows.proofs.Truth.{left, right}
+use Rattle.rows.proofs.Truth.{differ, left, right}
 
 -- if a, then b
 abbrev pub implies : Bool → Bool → Bool
@@ -80,6 +80,11 @@ split P false x y p q = q
 pub fork : (P : Bool → Row → Type 0) (b : Bool) (x y : Row) → P true x → P false y → P b (when b x y)
 fork P true x y p q = p
 fork P false x y p q = q
+
+-- one that a test passes over
+pub passed : (P : Row → Type 0) (b : Bool) (x y : Row) → b ≡ false → P y → P (when b x y)
+passed P true x y h p = differ (sym h)
+passed P false x y h p = p
 
 -- ---- A test tried on all values of which x is one
 

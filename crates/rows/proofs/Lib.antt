@@ -16,4 +16,5 @@ pub mod Running
 pub mod Stays
 pub mod Theorems
 pub mod Truth
+pub mod Unheard
 pub mod Whole

@@ -1,4 +1,4 @@
--- REV IS ALREADY RUNNING: in every place where a request waits or reverse charging is in effect, a further one is told so, and nothing
+-- REV IS ALREADY RUNNING: in every place with WAIT-ACTIVE, WAIT-ACTIVE-CONF, WAIT-CALLED or ACTIVE a further request is told so, and nothing
 -- changes.
 -- Assumes nothing.
 use mathlib.Core.Path.{_≡_, refl, sym, _∙_, subst}
@@ -51,7 +51,7 @@ a-request P q h x y z =
     either (eqb q 1) _ h (λ i. subst P (sym (eqb-true q 1 i)) x)
     (λ j. either (eqb q 2) (eqb q 3) j (λ i. subst P (sym (eqb-true q 2 i)) y) (λ i. subst P (sym (eqb-true q 3 i)) z))
 
-any-invoke : (P : Component → Type 0) (x : Component) → isInvoke x ≡ true → ((n : ℕ) → P (Invoke n)) → P x
+pub any-invoke : (P : Component → Type 0) (x : Component) → isInvoke x ≡ true → ((n : ℕ) → P (Invoke n)) → P x
 any-invoke P (Absent n) h y = differ h
 any-invoke P (Invoke n) h y = y n
 any-invoke P (Result n) h y = differ h

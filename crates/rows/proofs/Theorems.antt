@@ -15,7 +15,7 @@ use Rattle.rows.specs.Bill.{bitAt, isAnswered, isRev, answered, Case, pl
 use Rattle.rows.specs.History.{run, history, opening}
 use Rattle.rows.specs.Perform.{refusedOf}
 use Rattle.rows.specs.Promises.{NothingDone, noneIs, unpaid, Answering, runs, inCall, Clears, chargedBy, placeIn, isOpening}
-use Rattle.rows.specs.Promises.{isFacility, isRunning, asksReversal, isInvoke, toldRunning, sentRunning}
+use Rattle.rows.specs.Promises.{isFacility, isRunning, asksReversal, isInvoke, toldRunning, sentRunning, hearsRequest, hearsInvoke}
 use Rattle.rows.specs.Promises.{openingThere, secondsThere, noDuration}
 use Rattle.rows.specs.Promises.{reversals, Extends, Redialled, AllRedialled, Renumbered, SameAnswer, numbers, takesEffect, InEffect}
 use Rattle.rows.specs.Step.{unopenedCall, stepOf}
@@ -40,6 +40,7 @@ use Rattle.rows.proofs.Refusals
 use Rattle.rows.proofs.Reversal
 use Rattle.rows.proofs.Running
 use Rattle.rows.proofs.Stays
+use Rattle.rows.proofs.Unheard
 use Rattle.rows.proofs.Whole
 use Rattle.rows.proofs.Whole.{Shows}
 
@@ -123,10 +124,10 @@ pub access-clears : (c : Call) (n : ℕ) → validOf c ≡ true → eventOk (Fro
     Clears (stepOf c (FromAccess 4 n))
 access-clears = Clearing.access-clears
 
--- ---- REV Is Already Running
+-- ---- Who may ask, and who is told that it is running
 
--- Where a request waits or reverse charging is in effect (`isRunning`), a further one of the own user, A, B or C, is answered by ACCESS ERROR
--- 12, and by nothing else; the call is as it stood, so the wait goes on with all that is pending ..
+-- In WAIT-ACTIVE, WAIT-ACTIVE-CONF, WAIT-CALLED and ACTIVE (`isRunning`) a request A, B or C of the own user is answered by ACCESS ERROR 12, and by
+-- nothing else; the call is as it stood, so a wait goes on with all that is pending ..
 pub running-here : (c : Call) (q : ℕ) (n : Number) → validOf c ≡ true → eventOk (Ask q n) ≡ true → isRunning (c .stand .rev) ≡ true →
     asksReversal q ≡ true → stepOf c (Ask q n) ≡ toldRunning c
 running-here = Running.running-here
@@ -135,6 +136,16 @@ running-here = Running.running-here
 pub running-there : (c : Call) (m : Message) → validOf c ≡ true → eventOk (Received m) ≡ true → isRunning (c .stand .rev) ≡ true →
     isFacility m ≡ true → isInvoke (m .component) ≡ true → stepOf c (Received m) ≡ sentRunning c
 running-there = Running.running-there
+
+-- No other requests are heard than those that the papers name (`hearsRequest`): the rest get 1 ..
+pub request-unheard : (c : Call) (q : ℕ) (n : Number) → validOf c ≡ true → eventOk (Ask q n) ≡ true →
+    hearsRequest (c .side .role) (c .stand .phase) (c .stand .rev) q ≡ false → stepOf c (Ask q n) ≡ refusedOf 1 c
+request-unheard = Unheard.request-unheard
+
+-- .. and no other invokes (`hearsInvoke`).
+pub invoke-unheard : (c : Call) (m : Message) → validOf c ≡ true → eventOk (Received m) ≡ true → isInvoke (m .component) ≡ true →
+    hearsInvoke (c .side .role) (c .stand .phase) (c .stand .rev) (m .kind) (m .component) ≡ false → stepOf c (Received m) ≡ refusedOf 1 c
+invoke-unheard = Unheard.invoke-unheard
 
 -- ---- Demand 3: who pays each answered second of an originating call
 

@@ -23,7 +23,6 @@ use Rattle.rows.specs.declared.Event.{Event}
 use Rattle.rows.specs.declared.Event.the-variants.{Opening, Ask, Received, FromAccess, Expiry, Time}
 use Rattle.rows.specs.declared.Flags.{Flags}
 use Rattle.rows.specs.declared.Message.{Message}
-use Rattle.rows.specs.declared.Note.{Note}
 use Rattle.rows.specs.declared.Number.{Number}
 use Rattle.rows.specs.declared.Outcome.{Outcome}
 use Rattle.rows.specs.declared.Phase.{Phase}
@@ -392,9 +391,8 @@ pub record InEffect (o : Outcome) : Type 0 where
 
 -- ---- REV Is Already Running: proofs/Running.antt
 
--- The REV states in which a further request is answered so: one waits for its answer in the answered call (WAIT-ACTIVE, WAIT-ACTIVE-CONF:
--- 3.5.2.2.1.2, 3.5.2.2.5.2 last) or of the called user (WAIT-CALLED, in SETUP too: 02 #101), or reverse charging is in effect (ACTIVE:
--- 3.5.2.n.1.2, 3.5.2.n.5.2 last)
+-- The REV states in which a further request is answered so: WAIT-ACTIVE and WAIT-ACTIVE-CONF (3.5.2.2.1.2, 3.5.2.2.5.2 last), WAIT-CALLED, in
+-- SETUP too (02 #101), and ACTIVE (3.5.2.n.1.2, 3.5.2.n.5.2 last)
 abbrev pub isRunning : RevState → Bool
 isRunning Idle = false
 isRunning WaitSetup = false
@@ -448,6 +446,32 @@ toldRunning c = saidAlone Act.AccessError 12 (Absent 0) c
 -- FAC ERROR 12
 abbrev pub sentRunning : Call → Outcome
 sentRunning c = saidAlone Act.SendFac 0 (Error 12) c
+
+-- ---- Which requests have a row at all: proofs/Unheard.antt
+
+-- 01, kind 2: of the own user, by role, phase and REV state; q: 0 a basic call, 1 A, 2 B, 3 C
+abbrev pub hearsRequest : Role → Phase → RevState → ℕ → Bool
+hearsRequest r Unopened s q = false
+hearsRequest Originating Null s q = eqb q 0 || eqb q 1  -- O1 to O4
+hearsRequest Destination Null s q = false
+hearsRequest r Setup s q = isRunning s && asksReversal q  -- D57
+hearsRequest Originating Answered s q = (isRev Idle s && eqb q 2) || (isRunning s && asksReversal q)  -- O20 to O22; O35, O37
+hearsRequest Destination Answered s q =
+    (isRev Idle s && (eqb q 2 || eqb q 3)) || (isRunning s && asksReversal q)  -- D30 to D35; D43, D53, D59
+hearsRequest r Cleared s q = false
+
+-- 01, kind 3: an invoke (x) of the other exchange in the message k: 1 IAM, 2 ANM, 3 CON, 4 REL, which is taken with any component, 5 FAC
+abbrev pub hearsInvoke : Role → Phase → RevState → ℕ → Component → Bool
+hearsInvoke r Unopened s k x = false
+hearsInvoke Originating Null s k x = false
+hearsInvoke Destination Null s k x = eqb k 1 && invokeOf 1 x  -- D5 to D8
+hearsInvoke Originating Setup s k x = eqb k 4 || (eqb k 5 && (isRev Idle s && invokeOf 3 x))  -- O6 to O8
+hearsInvoke Destination Setup s k x = eqb k 4 || (eqb k 5 && isRunning s)  -- D58
+hearsInvoke Originating Answered s k x =
+    eqb k 4 || (eqb k 5 && ((isRev Idle s && invokeOf 3 x) || isRunning s))  -- O23 to O27; O36, O38
+hearsInvoke Destination Answered s k x =
+    eqb k 4 || (eqb k 5 && ((isRev Idle s && invokeOf 2 x) || isRunning s))  -- D26 to D29; D44, D54, D60
+hearsInvoke r Cleared s k x = false
 
 -- ---- A clearing clears, and who is charged at a destination: proofs/Clearing.antt
 

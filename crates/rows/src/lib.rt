@@ -1,4 +1,5 @@
-// The reverse charging (REV) behaviour of one call at one exchange, ITU-T Q.736 clause 3, with the house rows of document 01.
+// The reverse charging (REV) behaviour of one call at one exchange, ITU-T Q.736 clause 3, with the house rows of documents 01
+// and 02.
 //
 //     Event --read--> Reading --cue--> Cue --find--> Row --plan--> Plan --perform--> Outcome
 //
