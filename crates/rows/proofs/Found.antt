@@ -2,26 +2,24 @@
 -- (Find.antt) and on every plan that a row may make (Rows.antt), at every role, phase and REV state.
 -- A test that holds there holds of the plan for any event and any terms.
 -- Assumes nothing.
-use mathlib.Core.Path.{_≡_, refl, sym}
+use mathlib.Core.Path.{_≡_, refl}
 use mathlib.Core.Bool.{Bool, true, false, _&&_, not}
 use Prim.Native.Nat.{ℕ}
-use native.Mathlib.Omega.{arith}
 use lib.Dec.{eqb}
 use borrow.Author.Tests.{not-true}
 use Rattle.meters.specs.Meters.{changeOf}
-use Rattle.meters.specs.declared.Metered.{Metered}
-use Rattle.meters.specs.declared.Metered.the-variants.{Done, NoPayer, TooMuch}
+use Rattle.meters.specs.declared.Metered.the-variants.{Done}
 use Rattle.meters.specs.declared.Meters.{Meters}
 use Rattle.rows.specs.Find.{when, unopenedOf, originatingNullOf, originatingSetupIdleOf, waitSetupOf, originatingWaitAnswerOf}
 use Rattle.rows.specs.Find.{originatingAnsweredIdleOf, waitActiveOf, activeOf, destinationNullOf, destinationSetupIdleOf}
 use Rattle.rows.specs.Find.{waitSetupConfOf, setupWaitCalledOf, destinationWaitAnswerOf, destinationAnsweredIdleOf, waitActiveConfOf}
 use Rattle.rows.specs.Find.{answeredWaitCalledOf, rowForOf}
-use Rattle.rows.specs.Perform.{refusedOf, followsOf, settledOf, performIf}
+use Rattle.rows.specs.Perform.{refusedOf, followsOf, performIf}
 use Rattle.rows.specs.Read.{readOf, cueOf, termsOf}
 use Rattle.rows.specs.Rows
 use Rattle.rows.specs.Rows.{planOf}
 use Rattle.rows.specs.Step.{takesOf, ifInRange, ifCall, stepOf}
-use Rattle.rows.specs.Valid.{validOf, eventOk}
+use Rattle.rows.specs.Valid.{placedOf, validOf, eventOk}
 use Rattle.rows.specs.declared.Call.{Call}
 use Rattle.rows.specs.declared.Correctness.{Correctness}
 use Rattle.rows.specs.declared.Correctness.the-variants.{Correct, Incorrect}
@@ -41,7 +39,6 @@ use Rattle.rows.specs.declared.Outcome.{Outcome}
 use Rattle.rows.specs.declared.Phase.{Phase}
 use Rattle.rows.specs.declared.Phase.the-variants.{Unopened, Null, Setup, Answered, Cleared}
 use Rattle.rows.specs.declared.Plan.{Plan}
-use Rattle.rows.specs.declared.Reading.{Reading}
 use Rattle.rows.specs.declared.RevState.{RevState}
 use Rattle.rows.specs.declared.RevState.the-variants.{Idle, WaitSetup, WaitActive, WaitAnswer, Active, WaitSetupConf, WaitActiveConf}
 use Rattle.rows.specs.declared.RevState.the-variants.{WaitCalled}
@@ -61,7 +58,7 @@ use Rattle.rows.specs.declared.Service.the-variants.{OnRequest, Uncondit
 use Rattle.rows.specs.declared.Stand.{Stand}
 use Rattle.rows.specs.declared.Terms.{Terms}
 use Rattle.rows.proofs.Answers.{planFor, settled}
-use Rattle.rows.proofs.Truth.{differ, left, right}
+use Rattle.rows.proofs.Truth.{left, right}
 
 -- if a, then b
 abbrev pub implies : Bool → Bool → Bool
@@ -80,11 +77,6 @@ split P false x y p q = q
 pub fork : (P : Bool → Row → Type 0) (b : Bool) (x y : Row) → P true x → P false y → P b (when b x y)
 fork P true x y p q = p
 fork P false x y p q = q
-
--- one that a test passes over
-pub passed : (P : Row → Type 0) (b : Bool) (x y : Row) → b ≡ false → P y → P (when b x y)
-passed P true x y h p = differ (sym h)
-passed P false x y h p = p
 
 -- ---- A test tried on all values of which x is one
 
@@ -458,6 +450,20 @@ found f h r now e t =
     (h e t (now .agreed) (now .rest)) r) (now .phase)) (now .rev) in
     plans (f r now (e .kind)) t (rowForOf r (now .phase) (now .rev) e) .law
     (walk (rowTest f t r now) e r (now .phase) (now .rev) .law k)
+
+-- a test of the plan that one event finds, at every place that 01 allows
+abbrev pub wherever : (Role → Phase → RevState → Plan → Bool) → Cue → Terms → Bool
+wherever g e t =
+    everyRole (λ r. everyPhase (λ p. everyRev (λ s. implies (placedOf r p s) (plans (g r p s) t (rowForOf r p s e) .test))))
+
+pub at-place : (g : Role → Phase → RevState → Plan → Bool) (e : Cue) (t : Terms) → wherever g e t ≡ true →
+    (r : Role) (p : Phase) (s : RevState) → placedOf r p s ≡ true → g r p s (planOf (rowForOf r p s e) t) ≡ true
+at-place g e t h r p s i =
+    plans (g r p s) t (rowForOf r p s e) .law
+    (so (placedOf r p s) _
+    (rev (λ s′. implies (placedOf r p s′) (plans (g r p s′) t (rowForOf r p s′ e) .test))
+    (phase (λ p′. everyRev (λ s′. implies (placedOf r p′ s′) (plans (g r p′ s′) t (rowForOf r p′ s′ e) .test)))
+    (role (λ r′. everyPhase (λ p′. everyRev (λ s′. implies (placedOf r′ p′ s′) (plans (g r′ p′ s′) t (rowForOf r′ p′ s′ e) .test)))) h r) p) s) i)
 
 -- ---- A step is a refusal, or the plan carried out
 

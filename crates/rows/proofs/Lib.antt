@@ -11,10 +11,10 @@ pub mod Phases
 pub mod Placed
 pub mod Progress
 pub mod Refusals
+pub mod Requests
 pub mod Reversal
 pub mod Running
 pub mod Stays
 pub mod Theorems
 pub mod Truth
-pub mod Unheard
 pub mod Whole

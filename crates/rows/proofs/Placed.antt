@@ -2,7 +2,7 @@
 -- Assumes nothing.
 use mathlib.Core.Path.{_≡_}
 use mathlib.Core.Bool.{true}
-use Rattle.rows.specs.Valid.{placedOf}
+use Rattle.rows.specs.Valid.{idleOnly, placedOf}
 use Rattle.rows.specs.declared.Phase.{Phase}
 use Rattle.rows.specs.declared.Phase.the-variants.{Unopened, Null, Setup, Answered, Cleared}
 use Rattle.rows.specs.declared.RevState.{RevState}
@@ -23,7 +23,7 @@ module _ (P : Role → Phase → RevState → Type 0)
     (setup-wait-called : P Destination Setup WaitCalled) (d-wait-answer : P Destination Setup WaitAnswer)
     (d-answered : P Destination Answered Idle) (wait-active-conf : P Destination Answered WaitActiveConf)
     (answered-wait-called : P Destination Answered WaitCalled) (d-active : P Destination Answered Active) where
-  idle : (ph : Phase) → ((r : Role) → P r ph Idle) → (r : Role) (rv : RevState) → placedOf r Null rv ≡ true → P r ph rv
+  idle : (ph : Phase) → ((r : Role) → P r ph Idle) → (r : Role) (rv : RevState) → idleOnly rv ≡ true → P r ph rv
   idle ph p r Idle h = p r
   idle ph p r WaitSetup h = differ h
   idle ph p r WaitActive h = differ h

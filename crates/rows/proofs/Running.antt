@@ -8,7 +8,7 @@ use lib.Dec.{eqb}
 use borrow.Author.Tests.{eqb-true}
 use Rattle.rows.specs.Find.{waitActiveOf, activeOf, waitActiveConfOf, setupWaitCalledOf, answeredWaitCalledOf, rowForOf}
 use Rattle.rows.specs.Perform.{performOf}
-use Rattle.rows.specs.Promises.{sent, isFacility, isRunning, asksReversal, isInvoke, toldRunning, sentRunning}
+use Rattle.rows.specs.Promises.{sent, isFacility, tellsRunning, asksReversal, isInvoke, toldRunning, sentRunning}
 use Rattle.rows.specs.Read.{readOf, cueOf, termsOf}
 use Rattle.rows.specs.Rows.{planOf}
 use Rattle.rows.specs.Step.{takesOf, stepOf}
@@ -37,9 +37,9 @@ use Rattle.rows.proofs.Truth.{differ, either}
 module _ (P : Row → Type 0) (e : Cue) (wait-active : P (waitActiveOf (e .kind) e)) (active : P (activeOf (e .kind) e))
     (wait-active-conf : P (waitActiveConfOf (e .kind) e)) (setup-wait-called : P (setupWaitCalledOf (e .kind) e))
     (answered-wait-called : P (answeredWaitCalledOf (e .kind) e)) where
-  where-running : (r : Role) (ph : Phase) (rv : RevState) → placedOf r ph rv ≡ true → isRunning rv ≡ true → P (rowForOf r ph rv e)
+  where-running : (r : Role) (ph : Phase) (rv : RevState) → placedOf r ph rv ≡ true → tellsRunning rv ≡ true → P (rowForOf r ph rv e)
   where-running =
-      placed (λ (r : Role) (ph : Phase) (rv : RevState). isRunning rv ≡ true → P (rowForOf r ph rv e))
+      placed (λ (r : Role) (ph : Phase) (rv : RevState). tellsRunning rv ≡ true → P (rowForOf r ph rv e))
       (λ r i. differ i) (λ r i. differ i) (λ r i. differ i)
       differ differ differ differ (λ i. wait-active) (λ i. active)
       differ differ (λ i. setup-wait-called) differ differ (λ i. wait-active-conf) (λ i. answered-wait-called) (λ i. active)
@@ -61,7 +61,7 @@ any-invoke P (Unknown k n) h y = differ h
 
 -- ---- The answer
 
-module _ (c : Call) (v : validOf c ≡ true) (i : isRunning (c .stand .rev) ≡ true) where
+module _ (c : Call) (v : validOf c ≡ true) (i : tellsRunning (c .stand .rev) ≡ true) where
   -- a row gives the answer o to an event; a table has a row that does
   abbrev Gives : Outcome → Event → Row → Type 0
   Gives o e x = performOf c (planOf x (termsOf (c .side .flags) (c .stand) (readOf e))) (readOf e) ≡ o
@@ -90,10 +90,10 @@ module _ (c : Call) (v : validOf c ≡ true) (i : isRunning (c .stand .rev) ≡ 
       Sent : ℕ → Component → Type 0
       Sent k x = takesOf c (with-these k x) ≡ sentRunning c
 
-pub running-here : (c : Call) (q : ℕ) (n : Number) → validOf c ≡ true → eventOk (Ask q n) ≡ true → isRunning (c .stand .rev) ≡ true →
+pub running-here : (c : Call) (q : ℕ) (n : Number) → validOf c ≡ true → eventOk (Ask q n) ≡ true → tellsRunning (c .stand .rev) ≡ true →
     asksReversal q ≡ true → stepOf c (Ask q n) ≡ toldRunning c
 running-here c q n v k i h = row-decides c (Ask q n) v k ∙ asked c v i q n h
 
-pub running-there : (c : Call) (m : Message) → validOf c ≡ true → eventOk (Received m) ≡ true → isRunning (c .stand .rev) ≡ true →
+pub running-there : (c : Call) (m : Message) → validOf c ≡ true → eventOk (Received m) ≡ true → tellsRunning (c .stand .rev) ≡ true →
     isFacility m ≡ true → isInvoke (m .component) ≡ true → stepOf c (Received m) ≡ sentRunning c
 running-there c m v k i f h = row-decides c (Received m) v k ∙ invoked c v i m f h

@@ -15,7 +15,7 @@ use Rattle.rows.specs.Bill.{bitAt, isAnswered, isRev, answered, Case, pl
 use Rattle.rows.specs.History.{run, history, opening}
 use Rattle.rows.specs.Perform.{refusedOf}
 use Rattle.rows.specs.Promises.{NothingDone, noneIs, unpaid, Answering, runs, inCall, Clears, chargedBy, placeIn, isOpening}
-use Rattle.rows.specs.Promises.{isFacility, isRunning, asksReversal, isInvoke, toldRunning, sentRunning, hearsRequest, hearsInvoke}
+use Rattle.rows.specs.Promises.{isFacility, tellsRunning, asksReversal, isInvoke, toldRunning, sentRunning, requestHasRow, invokeHasRow}
 use Rattle.rows.specs.Promises.{openingThere, secondsThere, noDuration}
 use Rattle.rows.specs.Promises.{reversals, Extends, Redialled, AllRedialled, Renumbered, SameAnswer, numbers, takesEffect, InEffect}
 use Rattle.rows.specs.Step.{unopenedCall, stepOf}
@@ -37,10 +37,10 @@ use Rattle.rows.proofs.Payers
 use Rattle.rows.proofs.Phases
 use Rattle.rows.proofs.Progress
 use Rattle.rows.proofs.Refusals
+use Rattle.rows.proofs.Requests
 use Rattle.rows.proofs.Reversal
 use Rattle.rows.proofs.Running
 use Rattle.rows.proofs.Stays
-use Rattle.rows.proofs.Unheard
 use Rattle.rows.proofs.Whole
 use Rattle.rows.proofs.Whole.{Shows}
 
@@ -126,26 +126,27 @@ access-clears = Clearing.access-clears
 
 -- ---- Who may ask, and who is told that it is running
 
--- In WAIT-ACTIVE, WAIT-ACTIVE-CONF, WAIT-CALLED and ACTIVE (`isRunning`) a request A, B or C of the own user is answered by ACCESS ERROR 12, and by
+-- In WAIT-ACTIVE, WAIT-ACTIVE-CONF, WAIT-CALLED and ACTIVE (`tellsRunning`) a request A, B or C of the own user is answered by ACCESS ERROR 12, and by
 -- nothing else; the call is as it stood, so a wait goes on with all that is pending ..
-pub running-here : (c : Call) (q : ℕ) (n : Number) → validOf c ≡ true → eventOk (Ask q n) ≡ true → isRunning (c .stand .rev) ≡ true →
+pub running-here : (c : Call) (q : ℕ) (n : Number) → validOf c ≡ true → eventOk (Ask q n) ≡ true → tellsRunning (c .stand .rev) ≡ true →
     asksReversal q ≡ true → stepOf c (Ask q n) ≡ toldRunning c
 running-here = Running.running-here
 
 -- .. and so is an invoke of any operation in a FAC of the other exchange, by FAC ERROR 12.
-pub running-there : (c : Call) (m : Message) → validOf c ≡ true → eventOk (Received m) ≡ true → isRunning (c .stand .rev) ≡ true →
+pub running-there : (c : Call) (m : Message) → validOf c ≡ true → eventOk (Received m) ≡ true → tellsRunning (c .stand .rev) ≡ true →
     isFacility m ≡ true → isInvoke (m .component) ≡ true → stepOf c (Received m) ≡ sentRunning c
 running-there = Running.running-there
 
--- No other requests are heard than those that the papers name (`hearsRequest`): the rest get 1 ..
-pub request-unheard : (c : Call) (q : ℕ) (n : Number) → validOf c ≡ true → eventOk (Ask q n) ≡ true →
-    hearsRequest (c .side .role) (c .stand .phase) (c .stand .rev) q ≡ false → stepOf c (Ask q n) ≡ refusedOf 1 c
-request-unheard = Unheard.request-unheard
+-- Of the own user's requests in range, at a call, 1 is given for those that have no row in that role, phase and REV state (`requestHasRow`:
+-- the table of those that have one), and for no other ..
+pub request-one-exactly : (c : Call) (q : ℕ) (n : Number) → validOf c ≡ true → eventOk (Ask q n) ≡ true →
+    eqb (stepOf c (Ask q n) .number) 1 ≡ not (requestHasRow (c .side .role) (c .stand .phase) (c .stand .rev) q)
+request-one-exactly = Requests.request-one-exactly
 
--- .. and no other invokes (`hearsInvoke`).
-pub invoke-unheard : (c : Call) (m : Message) → validOf c ≡ true → eventOk (Received m) ≡ true → isInvoke (m .component) ≡ true →
-    hearsInvoke (c .side .role) (c .stand .phase) (c .stand .rev) (m .kind) (m .component) ≡ false → stepOf c (Received m) ≡ refusedOf 1 c
-invoke-unheard = Unheard.invoke-unheard
+-- .. and so of the other exchange's messages with an invoke (`invokeHasRow`).
+pub invoke-one-exactly : (c : Call) (m : Message) → validOf c ≡ true → eventOk (Received m) ≡ true → isInvoke (m .component) ≡ true →
+    eqb (stepOf c (Received m) .number) 1 ≡ not (invokeHasRow (c .side .role) (c .stand .phase) (c .stand .rev) (m .kind) (m .component))
+invoke-one-exactly = Requests.invoke-one-exactly
 
 -- ---- Demand 3: who pays each answered second of an originating call
 

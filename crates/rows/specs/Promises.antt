@@ -10,7 +10,7 @@ use lib.Dec.{eqb, leb}
 use Rattle.meters.specs.declared.Meters.{Meters}
 use Rattle.meters.specs.declared.Payer.{Payer}
 use Rattle.meters.specs.declared.Payer.the-variants.{Nobody, Called, Far}
-use Rattle.rows.specs.Bill.{same, bitAt, lowestBit, resultTo, invokeOf, Case, Mark, plain, second, reversed, Paid, Step, pick}
+use Rattle.rows.specs.Bill.{same, bitAt, lowestBit, resultTo, invokeOf, Mark, plain, second, reversed, Paid, Step, pick}
 use Rattle.rows.specs.Bill.{accepted}
 use Rattle.rows.specs.Bill.{isAnswered, isRev, answered}
 use Rattle.rows.specs.Step.{unopenedCall, stepOf}
@@ -393,15 +393,15 @@ pub record InEffect (o : Outcome) : Type 0 where
 
 -- The REV states in which a further request is answered so: WAIT-ACTIVE and WAIT-ACTIVE-CONF (3.5.2.2.1.2, 3.5.2.2.5.2 last), WAIT-CALLED, in
 -- SETUP too (02 #101), and ACTIVE (3.5.2.n.1.2, 3.5.2.n.5.2 last)
-abbrev pub isRunning : RevState → Bool
-isRunning Idle = false
-isRunning WaitSetup = false
-isRunning WaitActive = true
-isRunning WaitAnswer = false
-isRunning Active = true
-isRunning WaitSetupConf = false
-isRunning WaitActiveConf = true
-isRunning WaitCalled = true
+abbrev pub tellsRunning : RevState → Bool
+tellsRunning Idle = false
+tellsRunning WaitSetup = false
+tellsRunning WaitActive = true
+tellsRunning WaitAnswer = false
+tellsRunning Active = true
+tellsRunning WaitSetupConf = false
+tellsRunning WaitActiveConf = true
+tellsRunning WaitCalled = true
 
 -- 01, kind 2: a request for case A (1), B (2) or C (3)
 abbrev pub asksReversal : ℕ → Bool
@@ -447,31 +447,33 @@ toldRunning c = saidAlone Act.AccessError 12 (Absent 0) c
 abbrev pub sentRunning : Call → Outcome
 sentRunning c = saidAlone Act.SendFac 0 (Error 12) c
 
--- ---- Which requests have a row at all: proofs/Unheard.antt
+-- ---- Which requests have a row: proofs/Requests.antt. To be read at the places that 01 allows; elsewhere the answer is 9
 
--- 01, kind 2: of the own user, by role, phase and REV state; q: 0 a basic call, 1 A, 2 B, 3 C
-abbrev pub hearsRequest : Role → Phase → RevState → ℕ → Bool
-hearsRequest r Unopened s q = false
-hearsRequest Originating Null s q = eqb q 0 || eqb q 1  -- O1 to O4
-hearsRequest Destination Null s q = false
-hearsRequest r Setup s q = isRunning s && asksReversal q  -- D57
-hearsRequest Originating Answered s q = (isRev Idle s && eqb q 2) || (isRunning s && asksReversal q)  -- O20 to O22; O35, O37
-hearsRequest Destination Answered s q =
-    (isRev Idle s && (eqb q 2 || eqb q 3)) || (isRunning s && asksReversal q)  -- D30 to D35; D43, D53, D59
-hearsRequest r Cleared s q = false
+-- 01, kind 2: a request (q: 0 a basic call, 1 A, 2 B, 3 C) of the own user has a row
+abbrev pub requestHasRow : Role → Phase → RevState → ℕ → Bool
+requestHasRow r Unopened s q = false
+requestHasRow Originating Null s q = eqb q 0 || eqb q 1  -- O1 to O4
+requestHasRow Destination Null s q = false
+requestHasRow Originating Setup s q = false
+requestHasRow Destination Setup s q = tellsRunning s && asksReversal q  -- D57
+requestHasRow Originating Answered s q = (isRev Idle s && eqb q 2) || (tellsRunning s && asksReversal q)  -- O20 to O22; O35, O37
+requestHasRow Destination Answered s q =
+    (isRev Idle s && (eqb q 2 || eqb q 3)) || (tellsRunning s && asksReversal q)  -- D30 to D35; D43, D53, D59
+requestHasRow r Cleared s q = false
 
--- 01, kind 3: an invoke (x) of the other exchange in the message k: 1 IAM, 2 ANM, 3 CON, 4 REL, which is taken with any component, 5 FAC
-abbrev pub hearsInvoke : Role → Phase → RevState → ℕ → Component → Bool
-hearsInvoke r Unopened s k x = false
-hearsInvoke Originating Null s k x = false
-hearsInvoke Destination Null s k x = eqb k 1 && invokeOf 1 x  -- D5 to D8
-hearsInvoke Originating Setup s k x = eqb k 4 || (eqb k 5 && (isRev Idle s && invokeOf 3 x))  -- O6 to O8
-hearsInvoke Destination Setup s k x = eqb k 4 || (eqb k 5 && isRunning s)  -- D58
-hearsInvoke Originating Answered s k x =
-    eqb k 4 || (eqb k 5 && ((isRev Idle s && invokeOf 3 x) || isRunning s))  -- O23 to O27; O36, O38
-hearsInvoke Destination Answered s k x =
-    eqb k 4 || (eqb k 5 && ((isRev Idle s && invokeOf 2 x) || isRunning s))  -- D26 to D29; D44, D54, D60
-hearsInvoke r Cleared s k x = false
+-- 01, kind 3: a message (k: 1 IAM, 2 ANM, 3 CON, 4 REL, 5 FAC) of the other exchange with an invoke (x) has a row. A REL is taken for
+-- itself, whatever its component
+abbrev pub invokeHasRow : Role → Phase → RevState → ℕ → Component → Bool
+invokeHasRow r Unopened s k x = false
+invokeHasRow Originating Null s k x = false
+invokeHasRow Destination Null s k x = eqb k 1 && invokeOf 1 x  -- D5 to D8
+invokeHasRow Originating Setup s k x = eqb k 4 || (eqb k 5 && (isRev Idle s && invokeOf 3 x))  -- G5, O18; O6 to O8
+invokeHasRow Destination Setup s k x = eqb k 4 || (eqb k 5 && tellsRunning s)  -- G5, D24; D58
+invokeHasRow Originating Answered s k x =
+    eqb k 4 || (eqb k 5 && ((isRev Idle s && invokeOf 3 x) || tellsRunning s))  -- G5, O34, O40; O23 to O27; O36, O38
+invokeHasRow Destination Answered s k x =
+    eqb k 4 || (eqb k 5 && ((isRev Idle s && invokeOf 2 x) || tellsRunning s))  -- G5, D52, D56; D26 to D29; D44, D54, D60
+invokeHasRow r Cleared s k x = false
 
 -- ---- A clearing clears, and who is charged at a destination: proofs/Clearing.antt
 
