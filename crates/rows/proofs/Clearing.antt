@@ -13,7 +13,7 @@ use Rattle.meters.specs.declared.Meters.{Meters}
 use Rattle.meters.specs.declared.Payer.the-variants.{Called}
 use Rattle.rows.specs.Bill.{bitAt, resultTo}
 use Rattle.rows.specs.Perform.{standOf, settledOf, performIf, performOf}
-use Rattle.rows.specs.Promises.{placeIn, sent, isFacility, calledTurns, setupTold, answeredTold, messageTurns, accessTurns}
+use Rattle.rows.specs.Promises.{placeIn, isFacility, calledTurns, setupTold, answeredTold, messageTurns, accessTurns}
 use Rattle.rows.specs.Promises.{takesEffect, inCall, Clears, chargedBy}
 use Rattle.rows.specs.Read.{bit, kindOf, readOf, modeBy, extentBy}
 use Rattle.rows.specs.Rows
@@ -42,7 +42,7 @@ use Rattle.rows.specs.declared.Role.the-variants.{Originating, Destinati
 use Rattle.rows.proofs.Answers.{planFor, row-decides, settled}
 use Rattle.rows.proofs.Found.{implies, so, Test, holds}
 use Rattle.rows.proofs.Placed.{placed}
-use Rattle.rows.proofs.Progress.{valid-place, standing, a-facility, a-result, reversal-takes-effect}
+use Rattle.rows.proofs.Progress.{valid-place, standing, with-these, a-facility, a-result, reversal-takes-effect}
 use Rattle.rows.proofs.Truth.{differ, left, right}
 
 abbrev isDestination : Role → Bool
@@ -211,7 +211,7 @@ module _ (f : Flags) (a b : Bool) (mt : Meters) (u v w : Number) (m : Message) w
   abbrev Told : RevState → ℕ → Component → Type 0
   Told rv k x =
       Charged (here Answered rv) (readOf (Received m)) transferred
-      (takesOf (here Answered rv) (Received (sent k (m .cause) x (m .parts) (m .calling) (m .called) (m .duration))))
+      (takesOf (here Answered rv) (with-these m k x))
 
   by-result : (rv : RevState) → calledTurns rv f b m ≡ true → Told rv (m .kind) (m .component)
   by-result Idle h = differ h

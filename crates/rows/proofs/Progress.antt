@@ -146,6 +146,10 @@ module _ (c : Call) (r : Reading) where
 
 -- ---- What a message is, by its tests
 
+-- the message with another kind and component
+abbrev pub with-these : Message → ℕ → Component → Event
+with-these m k x = Received (sent k (m .cause) x (m .parts) (m .calling) (m .called) (m .duration))
+
 an-answer : (P : ℕ → Type 0) (k : ℕ) → (eqb k 2 || eqb k 3) ≡ true → P 2 → P 3 → P k
 an-answer P k h x y =
     either (eqb k 2) (eqb k 3) h (λ z. subst P (sym (eqb-true k 2 z)) x) (λ z. subst P (sym (eqb-true k 3 z)) y)
@@ -181,12 +185,8 @@ no-component P (Unknown c n) h y = differ h
 
 module _ (f : Flags) (a b : Bool) (mt : Meters) (u v w : Number) where
   module _ (m : Message) where
-    -- the message with another kind and component
-    abbrev with-these : ℕ → Component → Event
-    with-these k x = Received (sent k (m .cause) x (m .parts) (m .calling) (m .called) (m .duration))
-
     abbrev Leads : Role → Phase → RevState → ℕ → Component → Type 0
-    Leads r ph rv k x = InEffect (takesOf (standing r f ph rv a b mt u v w) (with-these k x))
+    Leads r ph rv k x = InEffect (takesOf (standing r f ph rv a b mt u v w) (with-these m k x))
 
     -- transfer accepted, of what was asked for
     abbrev transferred : Bool

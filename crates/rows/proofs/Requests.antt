@@ -9,7 +9,7 @@ use lib.Dec.{T, eqb, leb}
 use borrow.Author.Tests.{eqb-true, leb-true, not-true}
 use Rattle.meters.specs.Meters.{changeOf}
 use Rattle.rows.specs.Perform.{performIf, performOf}
-use Rattle.rows.specs.Promises.{sent, isInvoke, requestHasRow, invokeHasRow}
+use Rattle.rows.specs.Promises.{isInvoke, requestHasRow, invokeHasRow}
 use Rattle.rows.specs.Read.{readOf, cueOf, termsOf}
 use Rattle.rows.specs.Step.{stepOf}
 use Rattle.rows.specs.Valid.{validOf, eventOk}
@@ -30,7 +30,7 @@ use Rattle.rows.specs.declared.Terms.{Terms}
 use Rattle.rows.proofs.Answers.{planFor, settled, row-decides}
 use Rattle.rows.proofs.Below.{every, below}
 use Rattle.rows.proofs.Found.{implies, so, wherever, at-place}
-use Rattle.rows.proofs.Progress.{valid-place}
+use Rattle.rows.proofs.Progress.{valid-place, with-these}
 use Rattle.rows.proofs.Running.{any-invoke}
 use Rattle.rows.proofs.Truth.{left, right}
 
@@ -85,23 +85,20 @@ pub invoke-one-exactly : (c : Call) (m : Message) → validOf c ≡ true → eve
     eqb (stepOf c (Received m) .number) 1 ≡ not (invokeHasRow (c .side .role) (c .stand .phase) (c .stand .rev) (m .kind) (m .component))
 invoke-one-exactly c m v k h = any-invoke Exact (m .component) h (λ n. of n) k
   where
-    with-these : ℕ → Component → Event
-    with-these j x = Received (sent j (m .cause) x (m .parts) (m .calling) (m .called) (m .duration))
-
     Exact : Component → Type 0
     Exact x =
-        eventOk (with-these (m .kind) x) ≡ true →
-        eqb (stepOf c (with-these (m .kind) x) .number) 1 ≡ not (invokeHasRow (c .side .role) (c .stand .phase) (c .stand .rev) (m .kind) x)
+        eventOk (with-these m (m .kind) x) ≡ true →
+        eqb (stepOf c (with-these m (m .kind) x) .number) 1 ≡ not (invokeHasRow (c .side .role) (c .stand .phase) (c .stand .rev) (m .kind) x)
 
     -- of this message and this operation
     test : Terms → ℕ → ℕ → Bool
-    test t j n = implies (leb 1 j) (wherever (λ r p s. oneUnless (invokeHasRow r p s j (Invoke n))) (cueOf (readOf (with-these j (Invoke n)))) t)
+    test t j n = implies (leb 1 j) (wherever (λ r p s. oneUnless (invokeHasRow r p s j (Invoke n))) (cueOf (readOf (with-these m j (Invoke n)))) t)
 
     of : (n : ℕ) → Exact (Invoke n)
     of n o =
         let range = left (leb 1 (m .kind) && leb (m .kind) 5) _ o in
         let ops = left (leb 1 n && leb n 3) _ (right (leb (m .cause) 127) _ (right (leb 1 (m .kind) && leb (m .kind) 5) _ o)) in
-        decided c (with-these (m .kind) (Invoke n)) v o (λ r p s. invokeHasRow r p s (m .kind) (Invoke n))
+        decided c (with-these m (m .kind) (Invoke n)) v o (λ r p s. invokeHasRow r p s (m .kind) (Invoke n))
         (λ t. so (leb 1 (m .kind)) _
         (is-true _ (below (test t (m .kind)) 4
         (below (λ j. every (test t j) 4) 6 tt (m .kind) (omega (arith, leb-true (m .kind) 5 (right (leb 1 (m .kind)) _ range)))) n

@@ -8,7 +8,7 @@ use lib.Dec.{eqb}
 use borrow.Author.Tests.{eqb-true}
 use Rattle.rows.specs.Find.{waitActiveOf, activeOf, waitActiveConfOf, setupWaitCalledOf, answeredWaitCalledOf, rowForOf}
 use Rattle.rows.specs.Perform.{performOf}
-use Rattle.rows.specs.Promises.{sent, isFacility, tellsRunning, asksReversal, isInvoke, toldRunning, sentRunning}
+use Rattle.rows.specs.Promises.{isFacility, tellsRunning, asksReversal, isInvoke, toldRunning, sentRunning}
 use Rattle.rows.specs.Read.{readOf, cueOf, termsOf}
 use Rattle.rows.specs.Rows.{planOf}
 use Rattle.rows.specs.Step.{takesOf, stepOf}
@@ -29,7 +29,7 @@ use Rattle.rows.specs.declared.Role.{Role}
 use Rattle.rows.specs.declared.Row.{Row}
 use Rattle.rows.proofs.Answers.{row-decides}
 use Rattle.rows.proofs.Placed.{placed}
-use Rattle.rows.proofs.Progress.{valid-place, a-facility}
+use Rattle.rows.proofs.Progress.{valid-place, with-these, a-facility}
 use Rattle.rows.proofs.Truth.{differ, either}
 
 -- ---- What holds of the five tables holds wherever it is running
@@ -82,13 +82,10 @@ module _ (c : Call) (v : validOf c ≡ true) (i : tellsRunning (c .stand .rev) �
   invoked : (m : Message) → isFacility m ≡ true → isInvoke (m .component) ≡ true → takesOf c (Received m) ≡ sentRunning c
   invoked m f h =
       a-facility (λ (k : ℕ). Sent k (m .component)) (m .kind) f
-      (any-invoke (Sent 5) (m .component) h (λ n. answers (sentRunning c) (with-these 5 (Invoke n)) refl refl refl refl refl))
+      (any-invoke (Sent 5) (m .component) h (λ n. answers (sentRunning c) (with-these m 5 (Invoke n)) refl refl refl refl refl))
     where
-      with-these : ℕ → Component → Event
-      with-these k x = Received (sent k (m .cause) x (m .parts) (m .calling) (m .called) (m .duration))
-
       Sent : ℕ → Component → Type 0
-      Sent k x = takesOf c (with-these k x) ≡ sentRunning c
+      Sent k x = takesOf c (with-these m k x) ≡ sentRunning c
 
 pub running-here : (c : Call) (q : ℕ) (n : Number) → validOf c ≡ true → eventOk (Ask q n) ≡ true → tellsRunning (c .stand .rev) ≡ true →
     asksReversal q ≡ true → stepOf c (Ask q n) ≡ toldRunning c

@@ -126,8 +126,8 @@ access-clears = Clearing.access-clears
 
 -- ---- Who may ask, and who is told that it is running
 
--- In WAIT-ACTIVE, WAIT-ACTIVE-CONF, WAIT-CALLED and ACTIVE (`tellsRunning`) a request A, B or C of the own user is answered by ACCESS ERROR 12, and by
--- nothing else; the call is as it stood, so a wait goes on with all that is pending ..
+-- In WAIT-ACTIVE, WAIT-ACTIVE-CONF, WAIT-CALLED and ACTIVE (`tellsRunning`) a request A, B or C of the own user is answered by ACCESS ERROR
+-- 12, and by nothing else; the call is as it stood, so a wait goes on with all that is pending ..
 pub running-here : (c : Call) (q : ℕ) (n : Number) → validOf c ≡ true → eventOk (Ask q n) ≡ true → tellsRunning (c .stand .rev) ≡ true →
     asksReversal q ≡ true → stepOf c (Ask q n) ≡ toldRunning c
 running-here = Running.running-here
