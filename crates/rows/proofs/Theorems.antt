@@ -15,7 +15,8 @@ use Rattle.rows.specs.Bill.{bitAt, isAnswered, isRev, answered, Case, pl
 use Rattle.rows.specs.History.{run, history, opening}
 use Rattle.rows.specs.Perform.{refusedOf}
 use Rattle.rows.specs.Promises.{NothingDone, noneIs, unpaid, Answering, runs, inCall, Clears, chargedBy, placeIn, isOpening}
-use Rattle.rows.specs.Promises.{isFacility, tellsRunning, asksReversal, isInvoke, toldRunning, sentRunning, requestHasRow, invokeHasRow}
+use Rattle.rows.specs.Promises.{isFacility, tellsRunning, asksReversal, isInvoke, errorIs, toldRunning, sentRunning}
+use Rattle.rows.specs.Promises.{requestHasRow, invokeHasRow}
 use Rattle.rows.specs.Promises.{openingThere, secondsThere, noDuration}
 use Rattle.rows.specs.Promises.{reversals, Extends, Redialled, AllRedialled, Renumbered, SameAnswer, numbers, takesEffect, InEffect}
 use Rattle.rows.specs.Step.{unopenedCall, stepOf}
@@ -136,6 +137,16 @@ running-here = Running.running-here
 pub running-there : (c : Call) (m : Message) → validOf c ≡ true → eventOk (Received m) ≡ true → tellsRunning (c .stand .rev) ≡ true →
     isFacility m ≡ true → isInvoke (m .component) ≡ true → stepOf c (Received m) ≡ sentRunning c
 running-there = Running.running-there
+
+-- Only there: a request that is answered by the error 12 was A, B or C in one of these REV states ..
+pub told-only-running : (c : Call) (q : ℕ) (n : Number) → validOf c ≡ true → eventOk (Ask q n) ≡ true →
+    eqb (stepOf c (Ask q n) .note .error) 12 ≡ true → (tellsRunning (c .stand .rev) && asksReversal q) ≡ true
+told-only-running = Requests.told-only-running
+
+-- .. and so was a FAC the message whose invoke is answered by that error.
+pub sent-only-running : (c : Call) (m : Message) → validOf c ≡ true → eventOk (Received m) ≡ true → isInvoke (m .component) ≡ true →
+    errorIs 12 (stepOf c (Received m) .note .component) ≡ true → (isFacility m && tellsRunning (c .stand .rev)) ≡ true
+sent-only-running = Requests.sent-only-running
 
 -- Of the own user's requests in range, at a call, 1 is given for those that have no row in that role, phase and REV state (`requestHasRow`:
 -- the table of those that have one), and for no other ..

@@ -416,6 +416,15 @@ isInvoke (Error n) = false
 isInvoke (Reject n) = false
 isInvoke (Unknown k n) = false
 
+-- this error
+abbrev pub errorIs : ℕ → Component → Bool
+errorIs k (Absent n) = false
+errorIs k (Invoke n) = false
+errorIs k (Result n) = false
+errorIs k (Error n) = eqb n k
+errorIs k (Reject n) = false
+errorIs k (Unknown x n) = false
+
 -- one action, which carries this error or this component and nothing else, and the call as it stood: phase, REV state, what is pending,
 -- numbers and meters
 abbrev pub saidAlone : Act → ℕ → Component → Call → Outcome
