@@ -24,6 +24,7 @@ pub use lent::open;
 pub use listing::rev_listing;
 pub use places::count_records;
 use rows::Event;
+pub use words::says;
 
 // A record's frame: the number at which reading stops; or its kind and the place after it.
 pub enum Frame {
