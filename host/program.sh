@@ -54,7 +54,7 @@ run_program() {
             status=${refused:-2}
         fi
     done
-    exit $status
+    exit "$status"
 }
 
 usage() {

@@ -186,6 +186,14 @@ fn reject(w: &[u8]) -> Component {
     Component::Reject(0)
 }
 
+// Components 0 to 4 have words of their own.
+fn unnamed(number: u8, n: u8) -> Component {
+    if number < 5 {
+        return Component::Absent(n);
+    }
+    Component::Unknown(number, n)
+}
+
 // The component: its first word, and the two words after that.
 fn component(w: &[u8], next: &[u8], last: &[u8]) -> Component {
     if is(w, b"NONE") {
@@ -204,7 +212,7 @@ fn component(w: &[u8], next: &[u8], last: &[u8]) -> Component {
         return reject(next);
     }
     if is(w, b"COMPONENT") {
-        return Component::Unknown(code(next), code(last));
+        return unnamed(code(next), code(last));
     }
     Component::Absent(0)
 }
