@@ -1,8 +1,8 @@
 #!/bin/sh
-# records.sh [--count N] [--seed S]: generated event files (200 of seed 1 where it is not said), damaged ones among them, dumped by ./dump and
-# recorded by ./record. A file all of whose records are read, with each field in its range, comes back byte for byte. Of any other the first
-# record that is not so is told, by its line, and the records before it come back. Which record that is, ./listing says: 3, 5, 6 or 7; a
-# file whose listing is too long is left out. Needs cargo.
+# records.sh [--count N] [--seed S]: generated event files (200 of seed 1 where it is not said), damaged ones among them, dumped by ./dump
+# and recorded by ./record. A file all of whose records are read, with each field in its range, comes back byte for byte. Of any other the
+# first record that is not so is told, by its line, and the records before it come back. Which record that is, ./listing says: 3, 5, 6 or
+# 7; a file whose listing is too long is left out. Needs cargo.
 set -eu
 cd "$(dirname "$0")/.."
 who=records.sh count=200 seed=1
