@@ -45,6 +45,13 @@ pub struct Reader<'a> {
     pub at: usize,
 }
 
+// What the writer of events answers: it wrote a whole record, of so many bytes; or why it wrote nothing.
+pub enum Written {
+    Whole(usize),
+    BadField,
+    NoRoom,
+}
+
 // What one reading gives: what was found, and the place where that leaves the reader.
 pub struct Taken {
     pub found: Read,
