@@ -121,9 +121,12 @@ itemOf (Error n) = n
 itemOf (Reject n) = n
 itemOf (Unknown code n) = n
 
--- a telephone number's values, and those of what a message carries behind its parts
+-- the values of a telephone number, of a message up to its parts, and of what it carries behind them
 abbrev pub numberValues : Number → List ℕ
 numberValues n = n .count ∷ n .value ∷ []
+
+abbrev pub frontValues : Message → List ℕ
+frontValues m = m .kind ∷ m .cause ∷ codeOf (m .component) ∷ itemOf (m .component) ∷ m .parts ∷ []
 
 abbrev pub carriedValues : Message → List ℕ
 carriedValues m = numberValues (m .calling) ++ numberValues (m .called) ++ (m .duration ∷ [])
@@ -148,7 +151,7 @@ fieldsOf (Time seconds) = timeFields
 abbrev pub valuesOf : Event → List ℕ
 valuesOf (Opening role flags own) = role ∷ flags ∷ numberValues own
 valuesOf (Ask item called) = item ∷ numberValues called
-valuesOf (Received m) = m .kind ∷ m .cause ∷ codeOf (m .component) ∷ itemOf (m .component) ∷ m .parts ∷ carriedValues m
+valuesOf (Received m) = frontValues m ++ carriedValues m
 valuesOf (FromAccess item error) = item ∷ error ∷ []
 valuesOf Expiry = []
 valuesOf (Time seconds) = seconds ∷ []

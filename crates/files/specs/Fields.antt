@@ -18,11 +18,14 @@ abbrev pub askFields : List ℕ
 askFields = 1 ∷ numberFields 1
 
 -- kind 3: message; cause; component; operation or error number; parts; "then the numbers and the 4-byte duration present"
+abbrev pub frontFields : List ℕ
+frontFields = 1 ∷ 1 ∷ 1 ∷ 1 ∷ 1 ∷ []
+
 abbrev pub carriedFields : ℕ → List ℕ
 carriedFields parts = numberFields (part parts 16) ++ numberFields (part parts 32) ++ (4 * part parts 64 ∷ [])
 
 abbrev pub messageFields : ℕ → List ℕ
-messageFields parts = 1 ∷ 1 ∷ 1 ∷ 1 ∷ 1 ∷ carriedFields parts
+messageFields parts = frontFields ++ carriedFields parts
 
 -- kind 4: what the own access tells; error number
 abbrev pub accessFields : List ℕ

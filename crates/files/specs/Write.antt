@@ -7,7 +7,9 @@ use lib.ListN.{length, drop}
 use Rattle.text.specs.Choose.{ifLt, ifSo}
 use Rattle.rows.specs.Valid.{eventOk}
 use Rattle.rows.specs.declared.Event.{Event}
-use Rattle.files.specs.Bodies.{recordOf}
+use Rattle.rows.specs.declared.Event.the-variants.{Received}
+use Rattle.rows.specs.declared.Number.{Number}
+use Rattle.files.specs.Bodies.{componentOf, recordOf}
 use Rattle.files.specs.declared.Written.{Written}
 use Rattle.files.specs.declared.Written.the-variants.{Whole, BadField, NoRoom}
 
@@ -29,3 +31,23 @@ abbrev pub bytesWritten : Written → ℕ
 bytesWritten (Whole n) = n
 bytesWritten BadField = 0
 bytesWritten NoRoom = 0
+
+-- ---- a host in C passes numbers
+
+-- a telephone number by its count and its value
+abbrev pub numberWith : ℕ → ℕ → Number
+numberWith count value = record { count = count; value = value }
+
+-- a message by its fields, the component by its code and the byte after it
+abbrev pub messageWith : ℕ → ℕ → ℕ → ℕ → ℕ → Number → Number → ℕ → Event
+messageWith kind cause code item parts calling called duration =
+    Received
+    (record {
+      kind = kind;
+      cause = cause;
+      component = componentOf code item;
+      parts = parts;
+      calling = calling;
+      called = called;
+      duration = duration;
+    })

@@ -43,7 +43,7 @@ fn ask_at(s: &[u8], b: usize) -> Event
     Event::Ask(item, called)
 }
 
-fn component_of(code: u8, n: u8) -> Component
+pub(crate) fn component_of(code: u8, n: u8) -> Component
     ensures { λ r. ⌜ r ≡ componentOf code n ⌝ }
 {
     if code == 0 {

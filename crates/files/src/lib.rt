@@ -14,6 +14,7 @@ mod listing;
 mod messages;
 mod places;
 mod words;
+mod write;
 
 pub use bodies::read_at;
 pub use dump::rev_dump;
@@ -24,6 +25,13 @@ pub use lent::open;
 pub use listing::rev_listing;
 pub use places::count_records;
 use rows::Event;
+pub use write::rev_write_access;
+pub use write::rev_write_expiry;
+pub use write::rev_write_message;
+pub use write::rev_write_opening;
+pub use write::rev_write_request;
+pub use write::rev_write_time;
+pub use write::write_event;
 
 // A record's frame: the number at which reading stops; or its kind and the place after it.
 pub enum Frame {

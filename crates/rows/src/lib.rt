@@ -16,6 +16,7 @@ mod valid;
 use meters::Change;
 use meters::Meters;
 pub use numbers::APPLIED;
+pub use valid::event_ok;
 pub use valid::in_range;
 
 pub enum Role {

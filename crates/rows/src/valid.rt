@@ -334,7 +334,7 @@ fn access_ok(a: u8, n: u8) -> bool
     ((1 <= a) & (a <= 5)) & ((a == 2) | (n == 0))
 }
 
-pub(crate) fn event_ok(e: Event) -> bool
+pub fn event_ok(e: Event) -> bool
     ensures { λ out. ⌜ out ≡ eventOk e ⌝ }
 {
     match e {
