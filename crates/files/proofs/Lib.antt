@@ -12,3 +12,4 @@ pub mod Turns
 pub mod Unread
 pub mod Values
 pub mod Worked
+pub mod Writes
