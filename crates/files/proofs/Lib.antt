@@ -6,6 +6,7 @@ pub mod GivenBack
 pub mod Records
 pub mod Same
 pub mod Shown
+pub mod Stored
 pub mod Texts
 pub mod Theorems
 pub mod Turns
