@@ -1,4 +1,5 @@
 pub mod Billed
+pub mod BothWays
 pub mod Contracts
 pub mod Eight
 pub mod Fits
