@@ -20,14 +20,15 @@ use Rattle.rows.specs.declared.Event.{Event}
 use Rattle.rows.specs.declared.Event.the-variants.{Opening, Ask, Received, FromAccess, Expiry, Time}
 use Rattle.rows.specs.declared.Message.{Message}
 use Rattle.rows.specs.declared.Number.{Number}
-use Rattle.rows.proofs.Truth.{left, right, either}
+use Rattle.rows.proofs.Truth.{left, right, differ}
 use Rattle.files.specs.Bytes.{byteAt, leAt, leOf, part}
 use Rattle.files.specs.Fields.{messageFields, sizeOf, valuesAt, bytesOf}
 use Rattle.files.specs.Frames.{lengthWith, lengthOf, frameOf, frameAt}
 use Rattle.files.specs.Bodies.{componentOf, codeOf, itemOf, kindOf, fieldsOf, valuesOf, headOf, recordOf, eventAt, readBy, readAt}
-use Rattle.files.specs.Bodies.{messageFrom, openingAt, askAt, messageAt, accessAt, timeAt}
+use Rattle.files.specs.Bodies.{openingFrom, askFrom, messageFrom, accessFrom, timeFrom, openingAt, askAt, messageAt, accessAt, timeAt}
 use Rattle.files.specs.declared.Frame.{Frame}
 use Rattle.files.specs.declared.Read.{Read}
+use Rattle.files.proofs.Records.{le-one}
 use Rattle.files.proofs.Stored.{AllBytes, Fits, Holds, holds-between, fields-length, fields-back, fields-again}
 
 -- ---- an event whose fields are numbers of their types
@@ -94,3 +95,137 @@ fits (Received m) k h =
 fits (FromAccess item error) k h = (h .0, (h .1, tt))
 fits Expiry k h = tt
 fits (Time seconds) k h = (h, tt)
+
+-- ---- a record is its length, its kind and its values, as fields one after another
+
+record-as : (e : Event) → recordOf e ≡ bytesOf (2 ∷ 2 ∷ fieldsOf e) (lengthWith (fieldsOf e) ∷ kindOf e ∷ valuesOf e)
+unfolding recordOf headOf bytesOf
+record-as e = append-assoc (leOf 2 (lengthWith (fieldsOf e))) (leOf 2 (kindOf e)) (bytesOf (fieldsOf e) (valuesOf e))
+
+as-many : (e : Event) → length (fieldsOf e) ≡ length (valuesOf e)
+as-many (Opening role flags own) = refl
+as-many (Ask item called) = refl
+as-many (Received m) = refl
+as-many (FromAccess item error) = refl
+as-many Expiry = refl
+as-many (Time seconds) = refl
+
+pub record-length : (e : Event) → length (recordOf e) ≡ 2 + lengthWith (fieldsOf e)
+unfolding sizeOf
+record-length e =
+    ap length (record-as e)
+    ∙ fields-length (2 ∷ 2 ∷ fieldsOf e) (lengthWith (fieldsOf e) ∷ kindOf e ∷ valuesOf e) (ap (λ (n : ℕ). suc (suc n)) (as-many e))
+
+body-length : (e : Event) → sizeOf (fieldsOf e) ≤ 27
+unfolding sizeOf
+body-length (Opening role flags own) = omega arith
+body-length (Ask item called) = omega arith
+body-length (Received m) = omega arith
+body-length (FromAccess item error) = omega arith
+body-length Expiry = omega arith
+body-length (Time seconds) = omega arith
+
+pub record-range : (e : Event) → (4 ≤ length (recordOf e)) × (length (recordOf e) ≤ 31)
+record-range e = let l = record-length e in let b = body-length e in (omega arith, omega arith)
+
+-- ---- what stands in a file is read
+
+component-back : (c : Component) → componentOk c ≡ true → componentOf (codeOf c) (itemOf c) ≡ c
+unfolding componentOf ifEq ifSo
+component-back (Absent n) h = refl
+component-back (Invoke n) h = refl
+component-back (Result n) h = refl
+component-back (Error n) h = refl
+component-back (Reject n) h = refl
+component-back (Unknown code n) h = differ h
+
+-- the byte of a message that says which parts follow, among its values
+parts-at : (s : List ℕ) (b : ℕ) (m : Message) → valuesAt s b (messageFields (m .parts)) ≡ valuesOf (Received m) → byteAt s (b + 4) ≡ m .parts
+unfolding valuesAt
+parts-at s b m v =
+    let p : b + 1 + 1 + 1 + 1 ≡ b + 4 = omega arith in
+    sym (ap (byteAt s) p) ∙ sym (le-one s (b + 1 + 1 + 1 + 1)) ∙ ap (λ (vs : List ℕ). getD vs 4 0) v
+
+-- a message with this component
+abbrev withComponent : Message → Component → Message
+withComponent m c =
+    record { kind = m .kind; cause = m .cause; component = c; parts = m .parts; calling = m .calling; called = m .called; duration = m .duration }
+
+event-back : (s : List ℕ) (b : ℕ) (e : Event) → eventOk e ≡ true → valuesAt s b (fieldsOf e) ≡ valuesOf e → eventAt s b (kindOf e) ≡ e
+unfolding eventAt openingAt askAt messageAt accessAt timeAt ifEq ifSo
+event-back s b (Opening role flags own) k v = ap openingFrom v
+event-back s b (Ask item called) k v = ap askFrom v
+event-back s b (Received m) k v =
+    ap Received (ap (λ (n : ℕ). messageFrom (valuesAt s b (messageFields n))) (parts-at s b m v)
+    ∙ ap messageFrom v
+    ∙ ap (withComponent m) (component-back (m .component) (message-parts m k .0)))
+event-back s b (FromAccess item error) k v = ap accessFrom v
+event-back s b Expiry k v = refl
+event-back s b (Time seconds) k v = ap timeFrom v
+
+want-back : (s : List ℕ) (b : ℕ) (e : Event) → valuesAt s b (fieldsOf e) ≡ valuesOf e → lengthOf (kindOf e) (byteAt s (b + 4)) ≡ lengthWith (fieldsOf e)
+unfolding lengthOf ifEq ifSo
+want-back s b (Opening role flags own) v = refl
+want-back s b (Ask item called) v = refl
+want-back s b (Received m) v = ap (λ (n : ℕ). lengthWith (messageFields n)) (parts-at s b m v)
+want-back s b (FromAccess item error) v = refl
+want-back s b Expiry v = refl
+want-back s b (Time seconds) v = refl
+
+frame-back : (n at len kind want next : ℕ) → 2 ≤ len → len ≤ 29 → want ≡ len → next ≡ at + 2 + len → next ≤ n → frameOf n at len kind want ≡ Frame.Body kind next
+unfolding frameOf
+frame-back n at len kind want next g h e f l =
+    sym (no-lt _ _ _ _ _ (omega arith)
+    (no-lt _ _ _ _ _ g
+    (no-lt _ _ _ _ _ h
+    (no-lt _ _ _ _ _ (omega arith)
+    (no-eq _ _ _ _ _ (λ z. omega arith)
+    (yes-eq _ _ _ _ _ (sym e) (ap (Frame.Body kind) f)))))))
+
+kind-small : (e : Event) → kindOf e < 256 ^ 2
+kind-small (Opening role flags own) = omega arith
+kind-small (Ask item called) = omega arith
+kind-small (Received m) = omega arith
+kind-small (FromAccess item error) = omega arith
+kind-small Expiry = omega arith
+kind-small (Time seconds) = omega arith
+
+-- where a record's bytes stand, its length, its kind and its values are read
+module _ (s : List ℕ) (at : ℕ) (e : Event) (k : eventOk e ≡ true) (t : Typed e) (f : Holds s at (recordOf e)) where
+  all-read : valuesAt s at (2 ∷ 2 ∷ fieldsOf e) ≡ lengthWith (fieldsOf e) ∷ kindOf e ∷ valuesOf e
+  all-read =
+      let l = body-length e in
+      fields-back (2 ∷ 2 ∷ fieldsOf e) (lengthWith (fieldsOf e) ∷ kindOf e ∷ valuesOf e) s at
+      (omega arith, (kind-small e, fits e k t)) (subst (Holds s at) (record-as e) f)
+
+  length-read : leAt 2 s at ≡ lengthWith (fieldsOf e)
+  unfolding valuesAt
+  length-read = ap (λ (vs : List ℕ). getD vs 0 0) all-read
+
+  kind-read : leAt 2 s (at + 2) ≡ kindOf e
+  unfolding valuesAt
+  kind-read = ap (λ (vs : List ℕ). getD vs 1 0) all-read
+
+  values-read : valuesAt s (at + 4) (fieldsOf e) ≡ valuesOf e
+  unfolding valuesAt
+  values-read =
+      let p : at + 2 + 2 ≡ at + 4 = omega arith in
+      sym (ap (λ (i : ℕ). valuesAt s i (fieldsOf e)) p) ∙ ap (drop 2) all-read
+
+  frame-read : at + length (recordOf e) ≤ length s → frameAt s at ≡ Frame.Body (kindOf e) (at + length (recordOf e))
+  unfolding frameAt
+  frame-read h =
+      let l = body-length e in
+      let r = record-length e in
+      let p : at + 4 + 4 ≡ at + 8 = omega arith in
+      let w : lengthOf (kindOf e) (byteAt s (at + 8)) ≡ lengthWith (fieldsOf e) =
+        ap (λ (i : ℕ). lengthOf (kindOf e) (byteAt s i)) (sym p) ∙ want-back s (at + 4) e values-read in
+      rw (length-read, kind-read)
+      (frame-back (length s) at (lengthWith (fieldsOf e)) (kindOf e) _ (at + length (recordOf e)) (omega arith) (omega arith) w (omega arith) h)
+
+  pub record-read : at + length (recordOf e) ≤ length s → readAt s at ≡ Read.Got e (at + length (recordOf e))
+  unfolding readAt
+  record-read h =
+      let r = record-length e in
+      sym (no-le _ _ _ _ _ (omega arith) (sym (ap (readBy s at) (frame-read h)
+      ∙ ap (λ (x : Event). Read.Got x (at + length (recordOf e))) (event-back s (at + 4) e k values-read))))
