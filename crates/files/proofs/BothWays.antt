@@ -219,7 +219,7 @@ module _ (s : List ℕ) (at : ℕ) (e : Event) (k : eventOk e ≡ true) (t : Typ
       let r = record-length e in
       let p : at + 4 + 4 ≡ at + 8 = omega arith in
       let w : lengthOf (kindOf e) (byteAt s (at + 8)) ≡ lengthWith (fieldsOf e) =
-        ap (λ (i : ℕ). lengthOf (kindOf e) (byteAt s i)) (sym p) ∙ want-back s (at + 4) e values-read in
+      ap (λ (i : ℕ). lengthOf (kindOf e) (byteAt s i)) (sym p) ∙ want-back s (at + 4) e values-read in
       rw (length-read, kind-read)
       (frame-back (length s) at (lengthWith (fieldsOf e)) (kindOf e) _ (at + length (recordOf e)) (omega arith) (omega arith) w (omega arith) h)
 
@@ -229,3 +229,138 @@ module _ (s : List ℕ) (at : ℕ) (e : Event) (k : eventOk e ≡ true) (t : Typ
       let r = record-length e in
       sym (no-le _ _ _ _ _ (omega arith) (sym (ap (readBy s at) (frame-read h)
       ∙ ap (λ (x : Event). Read.Got x (at + length (recordOf e))) (event-back s (at + 4) e k values-read))))
+
+-- ---- what is read is what stands there
+
+-- the record of e is the bytes of s from at on, and ends at next
+abbrev Stands : List ℕ → ℕ → Event → ℕ → Type 0
+Stands s at e next = (recordOf e ≡ take (next - at) (drop at s)) × (next ≡ at + length (recordOf e))
+
+code-again : (code n : ℕ) → codeOf (componentOf code n) ≡ code
+unfolding componentOf
+code-again code n =
+    let P : Component → Type 0 = λ c. codeOf c ≡ code in
+    both-eq code 0 P (Absent n) _ (λ e. sym e) λ _.
+    both-eq code 1 P (Invoke n) _ (λ e. sym e) λ _.
+    both-eq code 2 P (Result n) _ (λ e. sym e) λ _.
+    both-eq code 3 P (Error n) _ (λ e. sym e) λ _.
+    both-eq code 4 P (Reject n) (Unknown code n) (λ e. sym e) (λ _. refl)
+
+item-again : (code n : ℕ) → itemOf (componentOf code n) ≡ n
+unfolding componentOf
+item-again code n =
+    let P : Component → Type 0 = λ c. itemOf c ≡ n in
+    both-eq _ _ P _ _ (λ _. refl) λ _.
+    both-eq _ _ P _ _ (λ _. refl) λ _.
+    both-eq _ _ P _ _ (λ _. refl) λ _.
+    both-eq _ _ P _ _ (λ _. refl) λ _.
+    both-eq _ _ P _ _ (λ _. refl) (λ _. refl)
+
+-- a message's values, of the message that they make
+values-again : (a b c d e f g h i j : ℕ) → let vs : List ℕ = a ∷ b ∷ c ∷ d ∷ e ∷ f ∷ g ∷ h ∷ i ∷ j ∷ [] in valuesOf (Received (messageFrom vs)) ≡ vs
+values-again a b c d e f g h i j = rw (code-again c d, item-again c d)
+
+message-again : (s : List ℕ) (b : ℕ) → valuesOf (Received (messageAt s b)) ≡ valuesAt s b (messageFields (byteAt s (b + 4)))
+unfolding messageAt valuesAt
+message-again s b = values-again _ _ _ _ _ _ _ _ _ _
+
+parts-again : (s : List ℕ) (b : ℕ) → messageAt s b .parts ≡ byteAt s (b + 4)
+unfolding messageAt valuesAt
+parts-again s b =
+    let p : b + 1 + 1 + 1 + 1 ≡ b + 4 = omega arith in
+    le-one s (b + 1 + 1 + 1 + 1) ∙ ap (byteAt s) p
+
+-- where the length and the kind that stand at a place are those of e, and the values are, there stands the record of e
+module _ (s : List ℕ) (at : ℕ) (a : AllBytes s) (l : at + 2 + leAt 2 s at ≤ length s) where
+  stands : (e : Event) → leAt 2 s at ≡ lengthWith (fieldsOf e) → leAt 2 s (at + 2) ≡ kindOf e → valuesOf e ≡ valuesAt s (at + 4) (fieldsOf e)
+      → Stands s at e (at + 2 + leAt 2 s at)
+  unfolding valuesAt sizeOf
+  stands e f g h =
+      let r = record-length e in
+      let p : at + 4 ≡ at + 2 + 2 = omega arith in
+      let v : lengthWith (fieldsOf e) ∷ kindOf e ∷ valuesOf e ≡ valuesAt s at (2 ∷ 2 ∷ fieldsOf e) =
+      rw (← f, ← g, h, p) in
+      let n : sizeOf (2 ∷ 2 ∷ fieldsOf e) ≡ at + 2 + leAt 2 s at - at = omega arith in (
+        record-as e ∙ ap (bytesOf (2 ∷ 2 ∷ fieldsOf e)) v ∙ fields-again (2 ∷ 2 ∷ fieldsOf e) s at a (omega arith)
+            ∙ ap (λ (k : ℕ). take k (drop at s)) n,
+        omega arith,
+      )
+
+  message-stands : leAt 2 s at ≡ lengthWith (messageFields (byteAt s (at + 8))) → leAt 2 s (at + 2) ≡ 3
+      → Stands s at (Received (messageAt s (at + 4))) (at + 2 + leAt 2 s at)
+  message-stands f g =
+      let p : at + 4 + 4 ≡ at + 8 = omega arith in
+      let q : messageAt s (at + 4) .parts ≡ byteAt s (at + 8) = parts-again s (at + 4) ∙ ap (byteAt s) p in
+      stands (Received (messageAt s (at + 4))) (f ∙ ap (λ (n : ℕ). lengthWith (messageFields n)) (sym q)) g
+      (message-again s (at + 4) ∙ ap (λ (n : ℕ). valuesAt s (at + 4) (messageFields n)) (sym (parts-again s (at + 4))))
+
+unknown-length : (kind parts : ℕ) → 6 < kind → lengthOf kind parts ≡ 0
+unfolding lengthOf
+unknown-length kind parts h =
+    sym (no-eq _ _ _ _ _ (λ e. omega arith)
+    (no-eq _ _ _ _ _ (λ e. omega arith)
+    (no-eq _ _ _ _ _ (λ e. omega arith)
+    (no-eq _ _ _ _ _ (λ e. omega arith)
+    (no-eq _ _ _ _ _ (λ e. omega arith)
+    (no-eq _ _ _ _ _ (λ e. omega arith) refl))))))
+
+by-kind : (s : List ℕ) (at : ℕ) → AllBytes s → at + 2 + leAt 2 s at ≤ length s → (kind : ℕ) → leAt 2 s (at + 2) ≡ kind
+    → (lengthOf kind (byteAt s (at + 8)) ≡ 0 → ⊥) → leAt 2 s at ≡ lengthOf kind (byteAt s (at + 8))
+    → Stands s at (eventAt s (at + 4) kind) (at + 2 + leAt 2 s at)
+unfolding lengthOf eventAt openingAt askAt accessAt timeAt valuesAt ifEq ifSo
+by-kind s at a l zero g z f = absurd (z refl)
+by-kind s at a l (suc zero) g z f = stands s at a l (openingAt s (at + 4)) f g refl
+by-kind s at a l (suc (suc zero)) g z f = stands s at a l (askAt s (at + 4)) f g refl
+by-kind s at a l (suc (suc (suc zero))) g z f = message-stands s at a l f g
+by-kind s at a l (suc (suc (suc (suc zero)))) g z f = stands s at a l (accessAt s (at + 4)) f g refl
+by-kind s at a l (suc (suc (suc (suc (suc zero))))) g z f = stands s at a l Expiry f g refl
+by-kind s at a l (suc (suc (suc (suc (suc (suc zero)))))) g z f = stands s at a l (timeAt s (at + 4)) f g refl
+by-kind s at a l (suc (suc (suc (suc (suc (suc (suc k))))))) g z f =
+    absurd (z (unknown-length (suc (suc (suc (suc (suc (suc (suc k))))))) (byteAt s (at + 8)) (omega arith)))
+
+abbrev FrameStands : List ℕ → ℕ → Frame → Type 0
+FrameStands s at (Frame.Stop n) = Unit {0}
+FrameStands s at (Frame.Body kind next) = Stands s at (eventAt s (at + 4) kind) next
+
+abbrev ReadStands : List ℕ → ℕ → Read → Type 0
+ReadStands s at Read.End = Unit {0}
+ReadStands s at (Read.Stop n) = Unit {0}
+ReadStands s at (Read.Got e next) = Stands s at e next
+
+frame-stands : (s : List ℕ) (at : ℕ) → AllBytes s → FrameStands s at (frameAt s at)
+unfolding frameAt frameOf
+frame-stands s at a =
+    let P : Frame → Type 0 = FrameStands s at in
+    both-lt _ _ P _ _ (λ _. tt) λ _.
+    both-lt _ _ P _ _ (λ _. tt) λ _.
+    both-lt _ _ P _ _ (λ _. tt) λ _.
+    both-lt _ _ P _ _ (λ _. tt) λ l.
+    both-eq _ _ P _ _ (λ _. tt) λ z.
+    both-eq _ _ P _ _ (λ f. by-kind s at a l (leAt 2 s (at + 2)) refl z f) (λ _. tt)
+
+by-frame : (s : List ℕ) (at : ℕ) (f : Frame) → FrameStands s at f → ReadStands s at (readBy s at f)
+by-frame s at (Frame.Stop n) h = tt
+by-frame s at (Frame.Body kind next) h = h
+
+read-stands : (s : List ℕ) (at : ℕ) → AllBytes s → ReadStands s at (readAt s at)
+unfolding readAt
+read-stands s at a = both-le _ _ (ReadStands s at) _ _ (λ _. tt) (λ _. by-frame s at (frameAt s at) (frame-stands s at a))
+
+-- ---- the laws
+
+-- An event in range, written at any place, reads back as itself, whatever stands before and after it; and reading goes on where it ends.
+pub written-reads-back : (e : Event) → eventOk e ≡ true → Typed e → (p q : List ℕ)
+    → readAt (p ++ recordOf e ++ q) (length p) ≡ Read.Got e (length p + length (recordOf e))
+written-reads-back e k t p q =
+    let l = length-append (p ++ recordOf e) q in
+    let m = length-append p (recordOf e) in
+    record-read (p ++ recordOf e ++ q) (length p) e k t (holds-between p (recordOf e) q) (omega arith)
+
+-- The same at the beginning of a file.
+pub first-reads-back : (e : Event) → eventOk e ≡ true → Typed e → (q : List ℕ) → readAt (recordOf e ++ q) 0 ≡ Read.Got e (length (recordOf e))
+first-reads-back e k t q = written-reads-back e k t [] q ∙ ap (Read.Got e) (zero-add (length (recordOf e)))
+
+-- Where a record of a file of bytes is read, in range or not, the bytes that stand there are the record of the event that was read.
+pub read-writes-back : (s : List ℕ) → AllBytes s → (at next : ℕ) (e : Event) → readAt s at ≡ Read.Got e next
+    → (recordOf e ≡ take (next - at) (drop at s)) × (next ≡ at + length (recordOf e))
+read-writes-back s a at next e r = subst (ReadStands s at) r (read-stands s at a)
