@@ -10,7 +10,7 @@ use lib.Dec.{eqb, leb}
 use lib.ListN.{length, getD, take, drop, length-append}
 use borrow.Author.Tests.{eqb-true}
 use Rattle.text.specs.Choose.{ifEq, ifSo}
-use Rattle.text.proofs.Cases.{no-lt, yes-eq, no-eq, no-le, both-lt, both-le, both-eq}
+use Rattle.text.proofs.Cases.{no-lt, yes-eq, no-eq, yes-le, no-le, both-lt, both-le, both-eq}
 use Rattle.rows.specs.Read.{bit}
 use Rattle.rows.specs.Valid.{eventOk, messageOk, componentOk, partsOk, numberAbsent}
 use Rattle.rows.specs.Valid.{numberIf as numberOk}
@@ -26,6 +26,7 @@ use Rattle.files.specs.Fields.{messageFields, sizeOf, valuesAt, bytesOf}
 use Rattle.files.specs.Frames.{lengthWith, lengthOf, frameOf, frameAt}
 use Rattle.files.specs.Bodies.{componentOf, codeOf, itemOf, kindOf, fieldsOf, valuesOf, headOf, recordOf, eventAt, readBy, readAt}
 use Rattle.files.specs.Bodies.{openingFrom, askFrom, messageFrom, accessFrom, timeFrom, openingAt, askAt, messageAt, accessAt, timeAt}
+use Rattle.files.specs.Shown.{Ending, whole, unread, Contents, andThen, contentsFrom, contentsOf}
 use Rattle.files.specs.declared.Frame.{Frame}
 use Rattle.files.specs.declared.Read.{Read}
 use Rattle.files.proofs.Records.{le-one}
@@ -364,3 +365,60 @@ first-reads-back e k t q = written-reads-back e k t [] q ∙ ap (Read.Got e) (ze
 pub read-writes-back : (s : List ℕ) → AllBytes s → (at next : ℕ) (e : Event) → readAt s at ≡ Read.Got e next
     → (recordOf e ≡ take (next - at) (drop at s)) × (next ≡ at + length (recordOf e))
 read-writes-back s a at next e r = subst (ReadStands s at) r (read-stands s at a)
+
+eventOr : Event → Read → Event
+eventOr d Read.End = d
+eventOr d (Read.Stop n) = d
+eventOr d (Read.Got e next) = e
+
+-- Two events in range whose records begin a file alike are one event: no record is the beginning of another's.
+pub same-bytes-same-event : (e f : Event) → eventOk e ≡ true → Typed e → eventOk f ≡ true → Typed f → (q r : List ℕ)
+    → recordOf e ++ q ≡ recordOf f ++ r → e ≡ f
+unfolding eventOr
+same-bytes-same-event e f k t l u q r h =
+    ap (eventOr e) (sym (first-reads-back e k t q) ∙ ap (λ (s : List ℕ). readAt s 0) h ∙ first-reads-back f l u r)
+
+-- An event has one form: wherever it is read in files of bytes, the same bytes stand there.
+pub one-form : (s t : List ℕ) → AllBytes s → AllBytes t → (at next at′ next′ : ℕ) (e : Event)
+    → readAt s at ≡ Read.Got e next → readAt t at′ ≡ Read.Got e next′ → take (next - at) (drop at s) ≡ take (next′ - at′) (drop at′ t)
+one-form s t a b at next at′ next′ e g h = sym (read-writes-back s a at next e g .0) ∙ read-writes-back t b at′ next′ e h .0
+
+-- ---- a file of events
+
+-- their records one after another
+abbrev pub fileOf : List Event → List ℕ
+fileOf [] = []
+fileOf (e ∷ es) = recordOf e ++ fileOf es
+
+-- each is in range, and its fields are numbers of their types
+abbrev pub Writable : List Event → Type 0
+Writable [] = Unit {0}
+Writable (e ∷ es) = (eventOk e ≡ true) × Typed e × Writable es
+
+past-last : (s : List ℕ) (at : ℕ) → length s ≤ at → readAt s at ≡ Read.End
+unfolding readAt
+past-last s at h = sym (yes-le _ _ _ _ _ h refl)
+
+-- behind p, with k records at most to read
+from-place : (es : List Event) → Writable es → (p : List ℕ) (k : ℕ) → length (fileOf es) ≤ k
+    → contentsFrom k (p ++ fileOf es) (length p) ≡ record { events = es; ending = whole }
+unfolding contentsFrom
+from-place [] w p zero h = refl
+from-place [] w p (suc k) h = ap (λ (r : Read). andThen r (contentsFrom k (p ++ []))) 
+    (past-last (p ++ []) (length p) (omega (arith, length-append p [])))
+from-place (e ∷ es) w p zero h = absurd (let r = record-range e in let l = length-append (recordOf e) (fileOf es) in omega arith)
+from-place (e ∷ es) w p (suc k) h =
+    let r = record-range e in
+    let l = length-append (recordOf e) (fileOf es) in
+    let s : p ++ (recordOf e ++ fileOf es) ≡ p ++ recordOf e ++ fileOf es = sym (append-assoc p (recordOf e) (fileOf es)) in
+    let n : length p + length (recordOf e) ≡ length (p ++ recordOf e) = sym (length-append p (recordOf e)) in
+    let c : contentsFrom k (p ++ recordOf e ++ fileOf es) (length p + length (recordOf e)) ≡ record { events = es; ending = whole } =
+      ap (contentsFrom k (p ++ recordOf e ++ fileOf es)) n ∙ from-place es (w .2) (p ++ recordOf e) k (omega arith) in
+    ap (λ (x : List ℕ). andThen (readAt x (length p)) (contentsFrom k x)) s
+    ∙ ap (λ (x : Read). andThen x (contentsFrom k (p ++ recordOf e ++ fileOf es))) (written-reads-back e (w .0) (w .1) p (fileOf es))
+    ∙ ap (λ (x : Contents). record { events = e ∷ x .events; ending = x .ending }) c
+
+-- A file that is the records of events in range, one after another, holds just these events and ends after the last.
+pub file-of-events : (es : List Event) → Writable es → contentsOf (fileOf es) ≡ record { events = es; ending = whole }
+unfolding contentsOf
+file-of-events es w = from-place es w [] (length (fileOf es)) (omega arith)
