@@ -1,10 +1,10 @@
 -- A record's bytes and its event, both ways: what is written reads back, and what is read is what would be written.
 -- Assumes nothing.
-use mathlib.Core.Path.{_≡_, refl, sym, ap, ap₂, subst, _∙_}
+use mathlib.Core.Path.{_≡_, refl, sym, ap, subst, _∙_}
 use mathlib.Core.List.{List, [], _∷_, _++_, append-assoc}
-use mathlib.Core.Bool.{Bool, true, false, _&&_, _||_}
-use Prim.Native.Nat.{ℕ, zero, suc, _+_, _-_, _*_, _/_, _%_, _^_, _≤_, _<_}
-use native.Mathlib.Nat.{add-zero, add-assoc, zero-add}
+use mathlib.Core.Bool.{Bool, true, _&&_, _||_}
+use Prim.Native.Nat.{ℕ, zero, suc, _+_, _-_, _*_, _^_, _≤_, _<_}
+use native.Mathlib.Nat.{zero-add}
 use native.Mathlib.Omega.{arith}
 use lib.Dec.{eqb, leb}
 use lib.ListN.{length, getD, take, drop, length-append}
@@ -12,7 +12,7 @@ use borrow.Author.Tests.{eqb-true}
 use Rattle.text.specs.Choose.{ifEq, ifSo}
 use Rattle.text.proofs.Cases.{no-lt, yes-eq, no-eq, yes-le, no-le, both-lt, both-le, both-eq}
 use Rattle.rows.specs.Read.{bit}
-use Rattle.rows.specs.Valid.{eventOk, messageOk, componentOk, partsOk, numberAbsent}
+use Rattle.rows.specs.Valid.{eventOk, messageOk, componentOk, partsOk}
 use Rattle.rows.specs.Valid.{numberIf as numberOk}
 use Rattle.rows.specs.declared.Component.{Component}
 use Rattle.rows.specs.declared.Component.the-variants.{Absent, Invoke, Result, Error, Reject, Unknown}
@@ -26,7 +26,7 @@ use Rattle.files.specs.Fields.{messageFields, sizeOf, valuesAt, bytesOf}
 use Rattle.files.specs.Frames.{lengthWith, lengthOf, frameOf, frameAt}
 use Rattle.files.specs.Bodies.{componentOf, codeOf, itemOf, kindOf, fieldsOf, valuesOf, headOf, recordOf, eventAt, readBy, readAt}
 use Rattle.files.specs.Bodies.{openingFrom, askFrom, messageFrom, accessFrom, timeFrom, openingAt, askAt, messageAt, accessAt, timeAt}
-use Rattle.files.specs.Shown.{Ending, whole, unread, Contents, andThen, contentsFrom, contentsOf}
+use Rattle.files.specs.Shown.{whole, Contents, andThen, contentsFrom, contentsOf}
 use Rattle.files.specs.declared.Frame.{Frame}
 use Rattle.files.specs.declared.Read.{Read}
 use Rattle.files.proofs.Records.{le-one}
@@ -49,6 +49,17 @@ Typed (Received m) = TypedMessage m
 Typed (FromAccess item error) = (item < 256) × (error < 256)
 Typed Expiry = Unit {0}
 Typed (Time seconds) = seconds < 2 ^ 32
+
+-- ---- a file of events: their records one after another
+
+abbrev pub fileOf : List Event → List ℕ
+fileOf [] = []
+fileOf (e ∷ es) = recordOf e ++ fileOf es
+
+-- each is in range, and its fields are numbers of their types
+abbrev pub Writable : List Event → Type 0
+Writable [] = Unit {0}
+Writable (e ∷ es) = (eventOk e ≡ true) × Typed e × Writable es
 
 -- ---- its values have room in its fields
 
@@ -76,8 +87,8 @@ some-of a b c d e f g h =
 
 abbrev MessageParts : Message → Type 0
 MessageParts m =
-    (componentOk (m .component) ≡ true) × (numberOk (bit 16 (m .parts)) (m .calling) ≡ true) × (numberOk (bit 32 (m .parts)) (m .called) ≡ true)
-    × ((bit 64 (m .parts) || eqb (m .duration) 0) ≡ true)
+    (componentOk (m .component) ≡ true) × (numberOk (bit 16 (m .parts)) (m .calling) ≡ true)
+    × (numberOk (bit 32 (m .parts)) (m .called) ≡ true) × ((bit 64 (m .parts) || eqb (m .duration) 0) ≡ true)
 
 message-parts : (m : Message) → messageOk m ≡ true → MessageParts m
 message-parts m h =
@@ -126,9 +137,6 @@ body-length (FromAccess item error) = omega arith
 body-length Expiry = omega arith
 body-length (Time seconds) = omega arith
 
-pub record-range : (e : Event) → (4 ≤ length (recordOf e)) × (length (recordOf e) ≤ 31)
-record-range e = let l = record-length e in let b = body-length e in (omega arith, omega arith)
-
 -- ---- what stands in a file is read
 
 component-back : (c : Component) → componentOk c ≡ true → componentOf (codeOf c) (itemOf c) ≡ c
@@ -141,7 +149,8 @@ component-back (Reject n) h = refl
 component-back (Unknown code n) h = differ h
 
 -- the byte of a message that says which parts follow, among its values
-parts-at : (s : List ℕ) (b : ℕ) (m : Message) → valuesAt s b (messageFields (m .parts)) ≡ valuesOf (Received m) → byteAt s (b + 4) ≡ m .parts
+parts-at : (s : List ℕ) (b : ℕ) (m : Message) → valuesAt s b (messageFields (m .parts)) ≡ valuesOf (Received m)
+    → byteAt s (b + 4) ≡ m .parts
 unfolding valuesAt
 parts-at s b m v =
     let p : b + 1 + 1 + 1 + 1 ≡ b + 4 = omega arith in
@@ -150,7 +159,15 @@ parts-at s b m v =
 -- a message with this component
 abbrev withComponent : Message → Component → Message
 withComponent m c =
-    record { kind = m .kind; cause = m .cause; component = c; parts = m .parts; calling = m .calling; called = m .called; duration = m .duration }
+    record {
+      kind = m .kind;
+      cause = m .cause;
+      component = c;
+      parts = m .parts;
+      calling = m .calling;
+      called = m .called;
+      duration = m .duration;
+    }
 
 event-back : (s : List ℕ) (b : ℕ) (e : Event) → eventOk e ≡ true → valuesAt s b (fieldsOf e) ≡ valuesOf e → eventAt s b (kindOf e) ≡ e
 unfolding eventAt openingAt askAt messageAt accessAt timeAt ifEq ifSo
@@ -164,7 +181,8 @@ event-back s b (FromAccess item error) k v = ap accessFrom v
 event-back s b Expiry k v = refl
 event-back s b (Time seconds) k v = ap timeFrom v
 
-want-back : (s : List ℕ) (b : ℕ) (e : Event) → valuesAt s b (fieldsOf e) ≡ valuesOf e → lengthOf (kindOf e) (byteAt s (b + 4)) ≡ lengthWith (fieldsOf e)
+want-back : (s : List ℕ) (b : ℕ) (e : Event) → valuesAt s b (fieldsOf e) ≡ valuesOf e
+    → lengthOf (kindOf e) (byteAt s (b + 4)) ≡ lengthWith (fieldsOf e)
 unfolding lengthOf ifEq ifSo
 want-back s b (Opening role flags own) v = refl
 want-back s b (Ask item called) v = refl
@@ -173,7 +191,8 @@ want-back s b (FromAccess item error) v = refl
 want-back s b Expiry v = refl
 want-back s b (Time seconds) v = refl
 
-frame-back : (n at len kind want next : ℕ) → 2 ≤ len → len ≤ 29 → want ≡ len → next ≡ at + 2 + len → next ≤ n → frameOf n at len kind want ≡ Frame.Body kind next
+frame-back : (n at len kind want next : ℕ) → 2 ≤ len → len ≤ 29 → want ≡ len → next ≡ at + 2 + len → next ≤ n
+    → frameOf n at len kind want ≡ Frame.Body kind next
 unfolding frameOf
 frame-back n at len kind want next g h e f l =
     sym (no-lt _ _ _ _ _ (omega arith)
@@ -222,7 +241,8 @@ module _ (s : List ℕ) (at : ℕ) (e : Event) (k : eventOk e ≡ true) (t : Typ
       let w : lengthOf (kindOf e) (byteAt s (at + 8)) ≡ lengthWith (fieldsOf e) =
       ap (λ (i : ℕ). lengthOf (kindOf e) (byteAt s i)) (sym p) ∙ want-back s (at + 4) e values-read in
       rw (length-read, kind-read)
-      (frame-back (length s) at (lengthWith (fieldsOf e)) (kindOf e) _ (at + length (recordOf e)) (omega arith) (omega arith) w (omega arith) h)
+      (frame-back (length s) at (lengthWith (fieldsOf e)) (kindOf e) _ (at + length (recordOf e))
+      (omega arith) (omega arith) w (omega arith) h)
 
   pub record-read : at + length (recordOf e) ≤ length s → readAt s at ≡ Read.Got e (at + length (recordOf e))
   unfolding readAt
@@ -230,6 +250,14 @@ module _ (s : List ℕ) (at : ℕ) (e : Event) (k : eventOk e ≡ true) (t : Typ
       let r = record-length e in
       sym (no-le _ _ _ _ _ (omega arith) (sym (ap (readBy s at) (frame-read h)
       ∙ ap (λ (x : Event). Read.Got x (at + length (recordOf e))) (event-back s (at + 4) e k values-read))))
+
+-- whatever stands before and after it
+read-between : (e : Event) → eventOk e ≡ true → Typed e → (p q : List ℕ)
+    → readAt (p ++ recordOf e ++ q) (length p) ≡ Read.Got e (length p + length (recordOf e))
+read-between e k t p q =
+    let l = length-append (p ++ recordOf e) q in
+    let m = length-append p (recordOf e) in
+    record-read (p ++ recordOf e ++ q) (length p) e k t (holds-between p (recordOf e) q) (omega arith)
 
 -- ---- what is read is what stands there
 
@@ -258,7 +286,8 @@ item-again code n =
     both-eq _ _ P _ _ (λ _. refl) (λ _. refl)
 
 -- a message's values, of the message that they make
-values-again : (a b c d e f g h i j : ℕ) → let vs : List ℕ = a ∷ b ∷ c ∷ d ∷ e ∷ f ∷ g ∷ h ∷ i ∷ j ∷ [] in valuesOf (Received (messageFrom vs)) ≡ vs
+values-again : (a b c d e f g h i j : ℕ) → let vs : List ℕ = a ∷ b ∷ c ∷ d ∷ e ∷ f ∷ g ∷ h ∷ i ∷ j ∷ [] in
+    valuesOf (Received (messageFrom vs)) ≡ vs
 values-again a b c d e f g h i j = rw (code-again c d, item-again c d)
 
 message-again : (s : List ℕ) (b : ℕ) → valuesOf (Received (messageAt s b)) ≡ valuesAt s b (messageFields (byteAt s (b + 4)))
@@ -273,8 +302,8 @@ parts-again s b =
 
 -- where the length and the kind that stand at a place are those of e, and the values are, there stands the record of e
 module _ (s : List ℕ) (at : ℕ) (a : AllBytes s) (l : at + 2 + leAt 2 s at ≤ length s) where
-  stands : (e : Event) → leAt 2 s at ≡ lengthWith (fieldsOf e) → leAt 2 s (at + 2) ≡ kindOf e → valuesOf e ≡ valuesAt s (at + 4) (fieldsOf e)
-      → Stands s at e (at + 2 + leAt 2 s at)
+  stands : (e : Event) → leAt 2 s at ≡ lengthWith (fieldsOf e) → leAt 2 s (at + 2) ≡ kindOf e
+      → valuesOf e ≡ valuesAt s (at + 4) (fieldsOf e) → Stands s at e (at + 2 + leAt 2 s at)
   unfolding valuesAt sizeOf
   stands e f g h =
       let r = record-length e in
@@ -347,53 +376,7 @@ read-stands : (s : List ℕ) (at : ℕ) → AllBytes s → ReadStands s at (read
 unfolding readAt
 read-stands s at a = both-le _ _ (ReadStands s at) _ _ (λ _. tt) (λ _. by-frame s at (frameAt s at) (frame-stands s at a))
 
--- ---- the laws
-
--- An event in range, written at any place, reads back as itself, whatever stands before and after it; and reading goes on where it ends.
-pub written-reads-back : (e : Event) → eventOk e ≡ true → Typed e → (p q : List ℕ)
-    → readAt (p ++ recordOf e ++ q) (length p) ≡ Read.Got e (length p + length (recordOf e))
-written-reads-back e k t p q =
-    let l = length-append (p ++ recordOf e) q in
-    let m = length-append p (recordOf e) in
-    record-read (p ++ recordOf e ++ q) (length p) e k t (holds-between p (recordOf e) q) (omega arith)
-
--- The same at the beginning of a file.
-pub first-reads-back : (e : Event) → eventOk e ≡ true → Typed e → (q : List ℕ) → readAt (recordOf e ++ q) 0 ≡ Read.Got e (length (recordOf e))
-first-reads-back e k t q = written-reads-back e k t [] q ∙ ap (Read.Got e) (zero-add (length (recordOf e)))
-
--- Where a record of a file of bytes is read, in range or not, the bytes that stand there are the record of the event that was read.
-pub read-writes-back : (s : List ℕ) → AllBytes s → (at next : ℕ) (e : Event) → readAt s at ≡ Read.Got e next
-    → (recordOf e ≡ take (next - at) (drop at s)) × (next ≡ at + length (recordOf e))
-read-writes-back s a at next e r = subst (ReadStands s at) r (read-stands s at a)
-
-eventOr : Event → Read → Event
-eventOr d Read.End = d
-eventOr d (Read.Stop n) = d
-eventOr d (Read.Got e next) = e
-
--- Two events in range whose records begin a file alike are one event: no record is the beginning of another's.
-pub same-bytes-same-event : (e f : Event) → eventOk e ≡ true → Typed e → eventOk f ≡ true → Typed f → (q r : List ℕ)
-    → recordOf e ++ q ≡ recordOf f ++ r → e ≡ f
-unfolding eventOr
-same-bytes-same-event e f k t l u q r h =
-    ap (eventOr e) (sym (first-reads-back e k t q) ∙ ap (λ (s : List ℕ). readAt s 0) h ∙ first-reads-back f l u r)
-
--- An event has one form: wherever it is read in files of bytes, the same bytes stand there.
-pub one-form : (s t : List ℕ) → AllBytes s → AllBytes t → (at next at′ next′ : ℕ) (e : Event)
-    → readAt s at ≡ Read.Got e next → readAt t at′ ≡ Read.Got e next′ → take (next - at) (drop at s) ≡ take (next′ - at′) (drop at′ t)
-one-form s t a b at next at′ next′ e g h = sym (read-writes-back s a at next e g .0) ∙ read-writes-back t b at′ next′ e h .0
-
--- ---- a file of events
-
--- their records one after another
-abbrev pub fileOf : List Event → List ℕ
-fileOf [] = []
-fileOf (e ∷ es) = recordOf e ++ fileOf es
-
--- each is in range, and its fields are numbers of their types
-abbrev pub Writable : List Event → Type 0
-Writable [] = Unit {0}
-Writable (e ∷ es) = (eventOk e ≡ true) × Typed e × Writable es
+-- ---- a file of events is read record by record
 
 past-last : (s : List ℕ) (at : ℕ) → length s ≤ at → readAt s at ≡ Read.End
 unfolding readAt
@@ -404,19 +387,55 @@ from-place : (es : List Event) → Writable es → (p : List ℕ) (k : ℕ) → 
     → contentsFrom k (p ++ fileOf es) (length p) ≡ record { events = es; ending = whole }
 unfolding contentsFrom
 from-place [] w p zero h = refl
-from-place [] w p (suc k) h = ap (λ (r : Read). andThen r (contentsFrom k (p ++ []))) 
-    (past-last (p ++ []) (length p) (omega (arith, length-append p [])))
-from-place (e ∷ es) w p zero h = absurd (let r = record-range e in let l = length-append (recordOf e) (fileOf es) in omega arith)
+from-place [] w p (suc k) h =
+    ap (λ (r : Read). andThen r (contentsFrom k (p ++ []))) (past-last (p ++ []) (length p) (omega (arith, length-append p [])))
+from-place (e ∷ es) w p zero h = absurd (let r = record-length e in let l = length-append (recordOf e) (fileOf es) in omega arith)
 from-place (e ∷ es) w p (suc k) h =
-    let r = record-range e in
+    let r = record-length e in
     let l = length-append (recordOf e) (fileOf es) in
     let s : p ++ (recordOf e ++ fileOf es) ≡ p ++ recordOf e ++ fileOf es = sym (append-assoc p (recordOf e) (fileOf es)) in
     let n : length p + length (recordOf e) ≡ length (p ++ recordOf e) = sym (length-append p (recordOf e)) in
     let c : contentsFrom k (p ++ recordOf e ++ fileOf es) (length p + length (recordOf e)) ≡ record { events = es; ending = whole } =
-      ap (contentsFrom k (p ++ recordOf e ++ fileOf es)) n ∙ from-place es (w .2) (p ++ recordOf e) k (omega arith) in
+    ap (contentsFrom k (p ++ recordOf e ++ fileOf es)) n ∙ from-place es (w .2) (p ++ recordOf e) k (omega arith) in
     ap (λ (x : List ℕ). andThen (readAt x (length p)) (contentsFrom k x)) s
-    ∙ ap (λ (x : Read). andThen x (contentsFrom k (p ++ recordOf e ++ fileOf es))) (written-reads-back e (w .0) (w .1) p (fileOf es))
+    ∙ ap (λ (x : Read). andThen x (contentsFrom k (p ++ recordOf e ++ fileOf es))) (read-between e (w .0) (w .1) p (fileOf es))
     ∙ ap (λ (x : Contents). record { events = e ∷ x .events; ending = x .ending }) c
+
+-- ---- THE LAWS, each with its sentence, to be read alone
+
+-- Every record has 4 to 31 bytes.
+pub record-range : (e : Event) → (4 ≤ length (recordOf e)) × (length (recordOf e) ≤ 31)
+record-range e = let l = record-length e in let b = body-length e in (omega arith, omega arith)
+
+-- An event in range, written at any place, reads back as itself, whatever stands before and after it; and reading goes on where it ends.
+pub written-reads-back : (e : Event) → eventOk e ≡ true → Typed e → (p q : List ℕ)
+    → readAt (p ++ recordOf e ++ q) (length p) ≡ Read.Got e (length p + length (recordOf e))
+written-reads-back = read-between
+
+-- The same at the beginning of a file.
+pub first-reads-back : (e : Event) → eventOk e ≡ true → Typed e → (q : List ℕ)
+    → readAt (recordOf e ++ q) 0 ≡ Read.Got e (length (recordOf e))
+first-reads-back e k t q = written-reads-back e k t [] q ∙ ap (Read.Got e) (zero-add (length (recordOf e)))
+
+-- Where a record of a file of bytes is read, in range or not, the bytes that stand there are the record of the event that was read.
+pub read-writes-back : (s : List ℕ) → AllBytes s → (at next : ℕ) (e : Event) → readAt s at ≡ Read.Got e next
+    → (recordOf e ≡ take (next - at) (drop at s)) × (next ≡ at + length (recordOf e))
+read-writes-back s a at next e r = subst (ReadStands s at) r (read-stands s at a)
+
+-- Two events in range whose records begin a file alike are one event: no record is the beginning of another's.
+pub same-bytes-same-event : (e f : Event) → eventOk e ≡ true → Typed e → eventOk f ≡ true → Typed f → (q r : List ℕ)
+    → recordOf e ++ q ≡ recordOf f ++ r → e ≡ f
+same-bytes-same-event e f k t l u q r h =
+    let g = sym (first-reads-back e k t q) ∙ ap (λ (s : List ℕ). readAt s 0) h ∙ first-reads-back f l u r in
+    cc
+
+pub same-record-same-event : (e f : Event) → eventOk e ≡ true → Typed e → eventOk f ≡ true → Typed f → recordOf e ≡ recordOf f → e ≡ f
+same-record-same-event e f k t l u h = same-bytes-same-event e f k t l u [] [] (ap (λ (s : List ℕ). s ++ []) h)
+
+-- An event has one form: wherever it is read in files of bytes, the same bytes stand there.
+pub one-form : (s t : List ℕ) → AllBytes s → AllBytes t → (at next at′ next′ : ℕ) (e : Event)
+    → readAt s at ≡ Read.Got e next → readAt t at′ ≡ Read.Got e next′ → take (next - at) (drop at s) ≡ take (next′ - at′) (drop at′ t)
+one-form s t a b at next at′ next′ e g h = sym (read-writes-back s a at next e g .0) ∙ read-writes-back t b at′ next′ e h .0
 
 -- A file that is the records of events in range, one after another, holds just these events and ends after the last.
 pub file-of-events : (es : List Event) → Writable es → contentsOf (fileOf es) ≡ record { events = es; ending = whole }

@@ -97,7 +97,8 @@ fields-back (w ∷ ws) (v ∷ vs) s i h f =
     ap₂ (λ (x : ℕ) (xs : List ℕ). x ∷ xs) (le-back w v s i (h .0) (holds-left s i (leOf w v) (bytesOf ws vs) f))
     (fields-back ws vs s (i + w) (h .1) (rw (le-length w v) at (holds-right s i (leOf w v) (bytesOf ws vs) f)))
 
-pub fields-again : (ws s : List ℕ) (i : ℕ) → AllBytes s → i + sizeOf ws ≤ length s → bytesOf ws (valuesAt s i ws) ≡ take (sizeOf ws) (drop i s)
+pub fields-again : (ws s : List ℕ) (i : ℕ) → AllBytes s → i + sizeOf ws ≤ length s
+    → bytesOf ws (valuesAt s i ws) ≡ take (sizeOf ws) (drop i s)
 unfolding valuesAt bytesOf sizeOf
 fields-again [] s i a h = refl
 fields-again (w ∷ ws) s i a h =
