@@ -1,13 +1,14 @@
 -- A record's bytes and its event, both ways: what is written reads back, and what is read is what would be written.
 -- Assumes nothing.
-use mathlib.Core.Path.{_≡_, refl, sym, ap, subst, _∙_}
+use mathlib.Core.Path.{_≡_, refl, sym, ap, ap₂, subst, _∙_}
 use mathlib.Core.List.{List, [], _∷_, _++_, append-assoc}
 use mathlib.Core.Bool.{Bool, true, _&&_, _||_}
 use Prim.Native.Nat.{ℕ, zero, suc, _+_, _-_, _*_, _^_, _≤_, _<_}
 use native.Mathlib.Nat.{zero-add}
 use native.Mathlib.Omega.{arith}
 use lib.Dec.{eqb, leb}
-use lib.ListN.{length, getD, take, drop, length-append}
+use lib.ListN.{length, getD, take, drop, length-append, take-append-drop, drop-of-length-le}
+use lib.Seq.{drop-drop}
 use borrow.Author.Tests.{eqb-true}
 use Rattle.text.specs.Choose.{ifEq, ifSo}
 use Rattle.text.proofs.Cases.{no-lt, yes-eq, no-eq, yes-le, no-le, both-lt, both-le, both-eq}
@@ -26,7 +27,7 @@ use Rattle.files.specs.Fields.{messageFields, sizeOf, valuesAt, bytesOf}
 use Rattle.files.specs.Frames.{lengthWith, lengthOf, frameOf, frameAt}
 use Rattle.files.specs.Bodies.{componentOf, codeOf, itemOf, kindOf, fieldsOf, valuesOf, headOf, recordOf, eventAt, readBy, readAt}
 use Rattle.files.specs.Bodies.{openingFrom, askFrom, messageFrom, accessFrom, timeFrom, openingAt, askAt, messageAt, accessAt, timeAt}
-use Rattle.files.specs.Shown.{whole, Contents, andThen, contentsFrom, contentsOf}
+use Rattle.files.specs.Shown.{whole, Contents, andThen, contentsFrom, contentsOf, eventsOf}
 use Rattle.files.specs.declared.Frame.{Frame}
 use Rattle.files.specs.declared.Read.{Read}
 use Rattle.files.proofs.Records.{le-one}
@@ -353,7 +354,7 @@ FrameStands s at (Frame.Stop n) = Unit {0}
 FrameStands s at (Frame.Body kind next) = Stands s at (eventAt s (at + 4) kind) next
 
 abbrev ReadStands : List ℕ → ℕ → Read → Type 0
-ReadStands s at Read.End = Unit {0}
+ReadStands s at Read.End = length s ≤ at
 ReadStands s at (Read.Stop n) = Unit {0}
 ReadStands s at (Read.Got e next) = Stands s at e next
 
@@ -374,7 +375,7 @@ by-frame s at (Frame.Body kind next) h = h
 
 read-stands : (s : List ℕ) (at : ℕ) → AllBytes s → ReadStands s at (readAt s at)
 unfolding readAt
-read-stands s at a = both-le _ _ (ReadStands s at) _ _ (λ _. tt) (λ _. by-frame s at (frameAt s at) (frame-stands s at a))
+read-stands s at a = both-le _ _ (ReadStands s at) _ _ (λ h. h) (λ _. by-frame s at (frameAt s at) (frame-stands s at a))
 
 -- ---- a file of events is read record by record
 
@@ -400,6 +401,26 @@ from-place (e ∷ es) w p (suc k) h =
     ap (λ (x : List ℕ). andThen (readAt x (length p)) (contentsFrom k x)) s
     ∙ ap (λ (x : Read). andThen x (contentsFrom k (p ++ recordOf e ++ fileOf es))) (read-between e (w .0) (w .1) p (fileOf es))
     ∙ ap (λ (x : Contents). record { events = e ∷ x .events; ending = x .ending }) c
+
+-- what stands at a place, by what was found there
+again-by : (k : ℕ) (s : List ℕ) (at : ℕ) (found : Read) → ReadStands s at found → length s ≤ at + suc k
+    → ((next : ℕ) → length s ≤ next + k → contentsFrom k s next .ending ≡ whole → fileOf (contentsFrom k s next .events) ≡ drop next s)
+    → andThen found (contentsFrom k s) .ending ≡ whole → fileOf (andThen found (contentsFrom k s) .events) ≡ drop at s
+again-by k s at Read.End w h f e = sym (drop-of-length-le s w)
+again-by k s at (Read.Stop n) w h f e = cc
+again-by k s at (Read.Got x next) w h f e =
+    let r = record-length x in
+    let g = w .1 in
+    let n : at + (next - at) ≡ next = omega arith in
+    ap₂ (λ (t u : List ℕ). t ++ u) (w .0) (f next (omega arith) e ∙ ap (λ (i : ℕ). drop i s) (sym n) ∙ sym (drop-drop (next - at) at s))
+    ∙ take-append-drop (next - at) (drop at s)
+
+again-from : (k : ℕ) (s : List ℕ) (at : ℕ) → AllBytes s → length s ≤ at + k → contentsFrom k s at .ending ≡ whole
+    → fileOf (contentsFrom k s at .events) ≡ drop at s
+unfolding contentsFrom
+again-from zero s at a h e = let l : length s ≤ at = omega arith in sym (drop-of-length-le s l)
+again-from (suc k) s at a h e =
+    again-by k s at (readAt s at) (read-stands s at a) h (λ next. again-from k s next a) e
 
 -- ---- THE LAWS, each with its sentence, to be read alone
 
@@ -441,3 +462,8 @@ one-form s t a b at next at′ next′ e g h = sym (read-writes-back s a at next
 pub file-of-events : (es : List Event) → Writable es → contentsOf (fileOf es) ≡ record { events = es; ending = whole }
 unfolding contentsOf
 file-of-events es w = from-place es w [] (length (fileOf es)) (omega arith)
+
+-- A file of bytes that ends after a record is the records of the events that it holds, in range or not, one after another.
+pub events-of-file : (s : List ℕ) → AllBytes s → contentsOf s .ending ≡ whole → fileOf (eventsOf s) ≡ s
+unfolding contentsOf
+events-of-file s a e = again-from (length s) s 0 a (omega arith) e
