@@ -1,4 +1,5 @@
 pub mod Billed
+pub mod BothWays
 pub mod Contracts
 pub mod Eight
 pub mod Fits
@@ -6,6 +7,7 @@ pub mod GivenBack
 pub mod Records
 pub mod Same
 pub mod Shown
+pub mod Stored
 pub mod Texts
 pub mod Theorems
 pub mod Turns
