@@ -33,7 +33,7 @@ compare() {
         sh target/host/serve-writes "$2" >target/host/writes.log || status=$?
     if [ $status -ne 0 ]; then
         cat target/host/writes.log
-        echo "writes: $1 and the model differ, $1 does not answer, or a class was not reached" >&2
+        echo "writes: $1: a difference, no answer, or a class not reached" >&2
         exit $status
     fi
     tail -n 1 target/host/writes.log | sed "s/^/writes: $1: /"

@@ -24,9 +24,10 @@ pub fn compare(count: u64, seed: u64, keep: &str, command: &[String]) -> Result<
     for ordinal in 0..count {
         let file = generate::file(seed, ordinal);
         let expected = listing(&file, ROOM);
-        let got = send(&mut server.input, &file)
-            .and_then(|()| receive(&mut server.output))
-            .map_err(|error| server.lost(&format!("file {ordinal} of seed {seed}"), error))?;
+        let got = match send(&mut server.input, &file).and_then(|()| receive(&mut server.output)) {
+            Ok(got) => got,
+            Err(error) => return Err(server.lost(&format!("file {ordinal} of seed {seed}"), error)),
+        };
         if expected.as_ref().map(|listing| &listing.text) != got.as_ref() {
             std::fs::write(keep, &file)?;
             end_progress();

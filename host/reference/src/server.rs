@@ -26,9 +26,13 @@ impl Server {
         Ok(Server { name, process, input, output })
     }
 
-    /// What to say where it has no answer to `what`.
-    pub fn lost(&self, what: &str, error: std::io::Error) -> Trouble {
-        Trouble(format!("{what}: {} has no answer: {error}", self.name))
+    /// What to say where it has no answer to `what`. It ends when its input does, or when nobody reads what it says.
+    pub fn lost(self, what: &str, error: std::io::Error) -> Trouble {
+        let Server { name, mut process, input, output } = self;
+        drop(input);
+        drop(output);
+        let end = process.wait().map_or_else(|error| error.to_string(), |status| status.to_string());
+        Trouble(format!("{what}: {name} has no answer: {error}; it ends with {end}"))
     }
 
     /// Its input ends: it has nothing more to say, and ends with status 0.

@@ -24,11 +24,11 @@ pub fn compare(count: u64, seed: u64, keep: &str, command: &[String]) -> Result<
     for ordinal in 0..count {
         let (event, before) = lent(seed, ordinal);
         let expected = event.write(before.len());
-        let answer = server
-            .input
-            .write_all(&question(&event, &before))
-            .and_then(|()| receive(&mut server.output, before.len()))
-            .map_err(|error| server.lost(&format!("event {ordinal} of seed {seed}: {event:?}"), error))?;
+        let sent = server.input.write_all(&question(&event, &before));
+        let answer = match sent.and_then(|()| receive(&mut server.output, before.len())) {
+            Ok(answer) => answer,
+            Err(error) => return Err(server.lost(&format!("event {ordinal} of seed {seed}, {event:?}"), error)),
+        };
         if let Err(difference) = judge(&event, &before, &answer) {
             let text = format!("{event:?}\nlent {}\n{difference}\n", hex(&before));
             std::fs::write(keep, &text)?;
