@@ -29,7 +29,7 @@ fn put_1(out: &mut [u8], at: usize, v: u8) -> usize
     at + 1
 }
 
-fn put_2(out: &mut [u8], at: usize, v: u32) -> usize
+fn put_2(out: &mut [u8], at: usize, v: u64) -> usize
     requires { ⌜ at + 2 ≤ length (now out) ⌝ }
     ensures { λ r. ⌜ Put (now (out .entry)) at (leOf 2 v) (now (out .exit)) r ⌝ }
     ensures { λ r. ⌜ r ≡ at + 2 ⌝ }
@@ -39,12 +39,12 @@ fn put_2(out: &mut [u8], at: usize, v: u32) -> usize
     at + 2
 }
 
-fn put_4(out: &mut [u8], at: usize, v: u32) -> usize
+fn put_4(out: &mut [u8], at: usize, v: u64) -> usize
     requires { ⌜ at + 4 ≤ length (now out) ⌝ }
     ensures { λ r. ⌜ Put (now (out .entry)) at (leOf 4 v) (now (out .exit)) r ⌝ }
     ensures { λ r. ⌜ r ≡ at + 4 ⌝ }
 {
-    let to = put_2(out, at, v % 65536);
+    let to = put_2(out, at, v);
     put_2(out, to, v / 65536)
 }
 
@@ -53,8 +53,8 @@ fn put_8(out: &mut [u8], at: usize, v: u64) -> usize
     ensures { λ r. ⌜ Put (now (out .entry)) at (leOf 8 v) (now (out .exit)) r ⌝ }
     ensures { λ r. ⌜ r ≡ at + 8 ⌝ }
 {
-    let to = put_4(out, at, (v % 4294967296) as u32);
-    put_4(out, to, (v / 4294967296) as u32)
+    let to = put_4(out, at, v);
+    put_4(out, to, v / 4294967296)
 }
 
 // ---- Fields
@@ -87,7 +87,7 @@ fn put_duration_if(out: &mut [u8], at: usize, present: u8, seconds: u32) -> usiz
     ensures { λ r. ⌜ r ≡ at + 4 * present ⌝ }
 {
     if present == 1 {
-        return put_4(out, at, seconds);
+        return put_4(out, at, seconds as u64);
     }
     at
 }
@@ -146,8 +146,9 @@ fn put_head(out: &mut [u8], kind: u32, parts: u8) -> usize
     ensures { λ r. ⌜ Put (now (out .entry)) 0 (headOf (lengthOf kind parts) kind) (now (out .exit)) r ⌝ }
     ensures { λ r. ⌜ r ≡ 4 ⌝ }
 {
-    let to = put_2(out, 0, length_of(kind, parts as u32));
-    put_2(out, to, kind)
+    let len = length_of(kind, parts as u32);
+    let to = put_2(out, 0, len as u64);
+    put_2(out, to, kind as u64)
 }
 
 fn put_opening(out: &mut [u8], role: u8, flags: u8, own: Number) -> usize
@@ -215,7 +216,7 @@ fn put_time(out: &mut [u8], seconds: u32) -> usize
     ensures { λ r. ⌜ Put (now (out .entry)) 0 (recordOf (Time seconds)) (now (out .exit)) r ⌝ }
 {
     let to = put_head(out, 6, 0);
-    put_4(out, to, seconds)
+    put_4(out, to, seconds as u64)
 }
 
 // ---- Each kind: 3, then 8, then the record
@@ -224,50 +225,50 @@ fn write_opening(role: u8, flags: u8, own: Number, out: &mut [u8]) -> Written
     ensures { λ w. ⌜ (w ≡ writtenOf (Opening role flags own) (now (out .entry)))
         × (now (out .exit) ≡ leftOf (Opening role flags own) (now (out .entry))) ⌝ }
 {
-    if !rows::event_ok(Event::Opening(role, flags, own)) {
-        return Written::BadField;
+    if rows::opening_ok(role, flags, own) {
+        if out.len() < size_of(1, 0) {
+            return Written::NoRoom;
+        }
+        return Written::Whole(put_opening(out, role, flags, own));
     }
-    if out.len() < size_of(1, 0) {
-        return Written::NoRoom;
-    }
-    Written::Whole(put_opening(out, role, flags, own))
+    Written::BadField
 }
 
 fn write_ask(item: u8, called: Number, out: &mut [u8]) -> Written
     ensures { λ w. ⌜ (w ≡ writtenOf (Ask item called) (now (out .entry))) × (now (out .exit) ≡ leftOf (Ask item called) (now (out .entry))) ⌝ }
 {
-    if !rows::event_ok(Event::Ask(item, called)) {
-        return Written::BadField;
+    if rows::ask_ok(item, called) {
+        if out.len() < size_of(2, 0) {
+            return Written::NoRoom;
+        }
+        return Written::Whole(put_ask(out, item, called));
     }
-    if out.len() < size_of(2, 0) {
-        return Written::NoRoom;
-    }
-    Written::Whole(put_ask(out, item, called))
+    Written::BadField
 }
 
 fn write_message(m: Message, out: &mut [u8]) -> Written
     ensures { λ w. ⌜ (w ≡ writtenOf (Received m) (now (out .entry))) × (now (out .exit) ≡ leftOf (Received m) (now (out .entry))) ⌝ }
 {
-    if !rows::event_ok(Event::Received(m)) {
-        return Written::BadField;
+    if rows::message_ok(m) {
+        if out.len() < size_of(3, m.parts) {
+            return Written::NoRoom;
+        }
+        return Written::Whole(put_message(out, m));
     }
-    if out.len() < size_of(3, m.parts) {
-        return Written::NoRoom;
-    }
-    Written::Whole(put_message(out, m))
+    Written::BadField
 }
 
 fn write_access(item: u8, error: u8, out: &mut [u8]) -> Written
     ensures { λ w. ⌜ (w ≡ writtenOf (FromAccess item error) (now (out .entry)))
         × (now (out .exit) ≡ leftOf (FromAccess item error) (now (out .entry))) ⌝ }
 {
-    if !rows::event_ok(Event::FromAccess(item, error)) {
-        return Written::BadField;
+    if rows::access_ok(item, error) {
+        if out.len() < size_of(4, 0) {
+            return Written::NoRoom;
+        }
+        return Written::Whole(put_access(out, item, error));
     }
-    if out.len() < size_of(4, 0) {
-        return Written::NoRoom;
-    }
-    Written::Whole(put_access(out, item, error))
+    Written::BadField
 }
 
 fn write_expiry(out: &mut [u8]) -> Written
@@ -282,13 +283,13 @@ fn write_expiry(out: &mut [u8]) -> Written
 fn write_time(seconds: u32, out: &mut [u8]) -> Written
     ensures { λ w. ⌜ (w ≡ writtenOf (Time seconds) (now (out .entry))) × (now (out .exit) ≡ leftOf (Time seconds) (now (out .entry))) ⌝ }
 {
-    if !rows::event_ok(Event::Time(seconds)) {
-        return Written::BadField;
+    if rows::time_ok(seconds) {
+        if out.len() < size_of(6, 0) {
+            return Written::NoRoom;
+        }
+        return Written::Whole(put_time(out, seconds));
     }
-    if out.len() < size_of(6, 0) {
-        return Written::NoRoom;
-    }
-    Written::Whole(put_time(out, seconds))
+    Written::BadField
 }
 
 // ---- For hosts
@@ -321,7 +322,13 @@ fn number_of(w: Written) -> u32
 // Each kind for a host in C: on numbers, a telephone number as its count and its value. What they give is the number; the length stands in
 // the record's first two bytes.
 #[no_mangle]
-pub extern "C" fn rev_write_opening(role: u8, flags: u8, count: u8, value: u64, out: &mut [u8]) -> u32
+pub extern "C" fn rev_write_opening(
+    role: u8,
+    flags: u8,
+    count: u8,
+    value: u64,
+    out: &mut [u8],
+) -> u32
     ensures { λ r. ⌜ (r ≡ numberOf (writtenOf (Opening role flags (numberWith count value)) (now (out .entry))))
         × (now (out .exit) ≡ leftOf (Opening role flags (numberWith count value)) (now (out .entry))) ⌝ }
 {

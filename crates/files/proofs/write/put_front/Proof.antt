@@ -1,58 +1,20 @@
 use borrow.Author.Needs.{needs}
+use Rattle.files.proofs.Writes.{front-as}
 use Rattle.files.proofs.write.put_front.Statement.{statement}
 use Rattle.files.proofs.write.put_front.Tie as tie
-use Rattle.files.proofs.write.put_front.Reads as reads
-use Rattle.files.proofs.write.put_front.Lts as lts
-use Rattle.files.proofs.write.code_of.Reads as code-of-reads
-use Rattle.files.proofs.write.item_of.Reads as item-of-reads
-use Rattle.files.proofs.write.put_1.Reads as put-1-reads
 
--- src/write.rt:179:9
-code-of-requires : tie.Need-code-of-requires
-code-of-requires c κs = search needs
-
--- src/write.rt:180:9
-item-of-requires : tie.Need-item-of-requires
-item-of-requires c κs = search needs
-
--- src/write.rt:181:9
-put-1-requires : tie.Need-put-1-requires
-put-1-requires c κs = search needs
-
--- src/write.rt:182:5
-put-1-requires-2 : tie.Need-put-1-requires-2
-put-1-requires-2 c κs = search needs
-
--- src/write.rt:183:5
-put-1-requires-3 : tie.Need-put-1-requires-3
-put-1-requires-3 c κs = search needs
-
--- src/write.rt:184:5
-put-1-requires-4 : tie.Need-put-1-requires-4
-put-1-requires-4 c κs = search needs
-
--- src/write.rt:185:5
-put-1-requires-5 : tie.Need-put-1-requires-5
-put-1-requires-5 c κs = search needs
-
--- src/write.rt:173:1
-same-length : tie.Need-same-length
-same-length c = search needs
-
--- src/write.rt:173:1
 returns : tie.Need-returns
-returns c = ?
+returns c =
+    let d = c .before .before in
+    let e = d .before .before .before .before in
+    let f = e .before .before .before .before in
+    let g = f .before .before .before .before in
+    let h = g .before .before .before .before in
+    let i = h .before .before in (
+      front-as _ (i .before .code-of .ensures) (i .item-of .ensures) (h .put-1 .ensures .0) (g .put-12 .ensures .0) (f .put-13 .ensures .0)
+          (e .put-14 .ensures .0) (d .put-15 .ensures .0),
+      search needs,
+    )
 
 pub put-front-spec : {M : Type 1} → statement M
-put-front-spec =
-    tie.close
-    (tie.spec
-    code-of-requires
-    item-of-requires
-    put-1-requires
-    put-1-requires-2
-    put-1-requires-3
-    put-1-requires-4
-    put-1-requires-5
-    same-length
-    returns)
+put-front-spec = tie.close (tie.spec (λ c. λ κs. search needs) (λ c. λ κs. search needs) (λ c. λ κs. search needs) (λ c. λ κs. search needs) (λ c. λ κs. search needs) (λ c. λ κs. search needs) (λ c. λ κs. search needs) (λ c. search needs) returns)

@@ -1,27 +1,13 @@
 use borrow.Author.Needs.{needs}
+use mathlib.Core.Path.{ap, _∙_}
+use Rattle.files.specs.Write.{numberOf}
 use Rattle.files.proofs.write.rev_write_request.Statement.{statement}
 use Rattle.files.proofs.write.rev_write_request.Tie as tie
-use Rattle.files.proofs.write.rev_write_request.Reads as reads
-use Rattle.files.proofs.write.rev_write_request.Lts as lts
-use Rattle.files.proofs.write.number_of.Reads as number-of-reads
-use Rattle.files.proofs.write.write_ask.Reads as write-ask-reads
 
--- src/write.rt:338:15
-write-ask-requires : tie.Need-write-ask-requires
-write-ask-requires c κs = search needs
-
--- src/write.rt:338:5
-number-of-requires : tie.Need-number-of-requires
-number-of-requires c κs = search needs
-
--- src/write.rt:332:1
-same-length : tie.Need-same-length
-same-length c = search needs
-
--- src/write.rt:332:1
 returns : tie.Need-returns
-returns c = ?
+returns c =
+    let d = c .before .before .before in
+    (c .number-of .ensures ∙ ap numberOf (d .write-ask .ensures .0), d .write-ask .ensures .1)
 
 pub rev-write-request-spec : {M : Type 1} → statement M
-rev-write-request-spec =
-    tie.close (tie.spec write-ask-requires number-of-requires same-length returns)
+rev-write-request-spec = tie.close (tie.spec (λ c. λ κs. search needs) (λ c. λ κs. search needs) (λ c. search needs) returns)

@@ -1,48 +1,21 @@
 use borrow.Author.Needs.{needs}
+use native.Mathlib.Omega.{arith}
+use Rattle.rows.specs.declared.Event.the-variants.{FromAccess}
+use Rattle.files.proofs.Writes.{sizes, bad-as, narrow-as, whole-as}
 use Rattle.files.proofs.write.write_access.Statement.{statement}
 use Rattle.files.proofs.write.write_access.Tie as tie
-use Rattle.files.proofs.write.write_access.Reads as reads
-use Rattle.files.proofs.write.write_access.Lts as lts
-use Rattle.files.proofs.write.put_access.Reads as put-access-reads
-use Rattle.files.proofs.write.size_of.Reads as size-of-reads
-use Rattle.rows.proofs.event_ok.Reads as event-ok-reads
 
--- src/write.rt:264:9
-event-ok-requires : tie.Need-event-ok-requires
-event-ok-requires c κs = search needs
-
--- src/write.rt:265:9
 returns : tie.Need-returns
-returns c = ?
+returns c =
+    let s = c .before in
+    narrow-as (FromAccess _ _) _ _ _ (s .before .before .access-ok .ensures) (s .before .if1 .taken) (s .size-of .ensures) (omega arith)
 
--- src/write.rt:267:20
-size-of-requires : tie.Need-size-of-requires
-size-of-requires c κs = search needs
-
--- src/write.rt:268:9
 returns-2 : tie.Need-returns-2
-returns-2 c = ?
-
--- src/write.rt:270:20
-put-access-requires : tie.Need-put-access-requires
-put-access-requires c κs = ?
-
--- src/write.rt:260:1
-same-length : tie.Need-same-length
-same-length c = search needs
-
--- src/write.rt:260:1
-returns-3 : tie.Need-returns-3
-returns-3 c = ?
+returns-2 c =
+    let p = c .before .before in
+    let s = p .before .before .before in
+    whole-as (FromAccess _ _) _ _ _ (s .before .before .access-ok .ensures) (s .before .if1 .taken) (s .size-of .ensures) _ _ (omega arith)
+    (p .put-access .ensures)
 
 pub write-access-spec : {M : Type 1} → statement M
-write-access-spec =
-    tie.close
-    (tie.spec
-    event-ok-requires
-    returns
-    size-of-requires
-    returns-2
-    put-access-requires
-    same-length
-    returns-3)
+write-access-spec = tie.close (tie.spec (λ c. λ κs. search needs) (λ c. λ κs. search needs) returns (λ c. λ κs. omega (arith, sizes)) (λ c. search needs) returns-2 (λ c. bad-as (FromAccess _ _) _ _ (c .before .access-ok .ensures) (c .if1 .left)))

@@ -1,48 +1,21 @@
 use borrow.Author.Needs.{needs}
+use native.Mathlib.Omega.{arith}
+use Rattle.rows.specs.declared.Event.the-variants.{Ask}
+use Rattle.files.proofs.Writes.{sizes, bad-as, narrow-as, whole-as}
 use Rattle.files.proofs.write.write_ask.Statement.{statement}
 use Rattle.files.proofs.write.write_ask.Tie as tie
-use Rattle.files.proofs.write.write_ask.Reads as reads
-use Rattle.files.proofs.write.write_ask.Lts as lts
-use Rattle.files.proofs.write.put_ask.Reads as put-ask-reads
-use Rattle.files.proofs.write.size_of.Reads as size-of-reads
-use Rattle.rows.proofs.event_ok.Reads as event-ok-reads
 
--- src/write.rt:239:9
-event-ok-requires : tie.Need-event-ok-requires
-event-ok-requires c κs = search needs
-
--- src/write.rt:240:9
 returns : tie.Need-returns
-returns c = ?
+returns c =
+    let s = c .before in
+    narrow-as (Ask _ _) _ _ _ (s .before .before .ask-ok .ensures) (s .before .if1 .taken) (s .size-of .ensures) (omega arith)
 
--- src/write.rt:242:20
-size-of-requires : tie.Need-size-of-requires
-size-of-requires c κs = search needs
-
--- src/write.rt:243:9
 returns-2 : tie.Need-returns-2
-returns-2 c = ?
-
--- src/write.rt:245:20
-put-ask-requires : tie.Need-put-ask-requires
-put-ask-requires c κs = ?
-
--- src/write.rt:236:1
-same-length : tie.Need-same-length
-same-length c = search needs
-
--- src/write.rt:236:1
-returns-3 : tie.Need-returns-3
-returns-3 c = ?
+returns-2 c =
+    let p = c .before .before in
+    let s = p .before .before .before in
+    whole-as (Ask _ _) _ _ _ (s .before .before .ask-ok .ensures) (s .before .if1 .taken) (s .size-of .ensures) _ _ (omega arith)
+    (p .put-ask .ensures)
 
 pub write-ask-spec : {M : Type 1} → statement M
-write-ask-spec =
-    tie.close
-    (tie.spec
-    event-ok-requires
-    returns
-    size-of-requires
-    returns-2
-    put-ask-requires
-    same-length
-    returns-3)
+write-ask-spec = tie.close (tie.spec (λ c. λ κs. search needs) (λ c. λ κs. search needs) returns (λ c. λ κs. omega (arith, sizes)) (λ c. search needs) returns-2 (λ c. bad-as (Ask _ _) _ _ (c .before .ask-ok .ensures) (c .if1 .left)))

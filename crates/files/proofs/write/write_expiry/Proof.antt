@@ -1,31 +1,19 @@
 use borrow.Author.Needs.{needs}
+use native.Mathlib.Omega.{arith}
+use mathlib.Core.Bool.{true}
+use mathlib.Core.Path.{refl}
+use Rattle.rows.specs.declared.Event.the-variants.{Expiry}
+use Rattle.files.proofs.Writes.{sizes, narrow-as, whole-as}
 use Rattle.files.proofs.write.write_expiry.Statement.{statement}
 use Rattle.files.proofs.write.write_expiry.Tie as tie
-use Rattle.files.proofs.write.write_expiry.Reads as reads
-use Rattle.files.proofs.write.write_expiry.Lts as lts
-use Rattle.files.proofs.write.put_expiry.Reads as put-expiry-reads
-use Rattle.files.proofs.write.size_of.Reads as size-of-reads
 
--- src/write.rt:276:20
-size-of-requires : tie.Need-size-of-requires
-size-of-requires c κs = search needs
-
--- src/write.rt:277:9
 returns : tie.Need-returns
-returns c = ?
+returns c = narrow-as Expiry _ true _ refl refl (c .before .size-of .ensures) (omega arith)
 
--- src/write.rt:279:20
-put-expiry-requires : tie.Need-put-expiry-requires
-put-expiry-requires c κs = ?
-
--- src/write.rt:273:1
-same-length : tie.Need-same-length
-same-length c = search needs
-
--- src/write.rt:273:1
 returns-2 : tie.Need-returns-2
-returns-2 c = ?
+returns-2 c =
+    let p = c .before .before in
+    whole-as Expiry _ true _ refl refl (p .before .before .before .size-of .ensures) _ _ (omega arith) (p .put-expiry .ensures)
 
 pub write-expiry-spec : {M : Type 1} → statement M
-write-expiry-spec =
-    tie.close (tie.spec size-of-requires returns put-expiry-requires same-length returns-2)
+write-expiry-spec = tie.close (tie.spec (λ c. λ κs. search needs) returns (λ c. λ κs. omega (arith, sizes)) (λ c. search needs) returns-2)
