@@ -11,6 +11,6 @@ unfolding lengthOf sizeOf
 length-of-spec =
     tie.close
     (tie.spec
-    (λ c. search (cases, message-size) depth 20) (λ c. search (cases, message-size) depth 20) (λ c. search needs) (λ c. search needs) (λ c. search needs)
-    (λ c. search needs) (λ c. search needs) (λ c. search needs) (λ c. search (cases, message-size) depth 20) (λ c. search (cases, message-size) depth 20)
-    (λ c. search (cases, message-size) depth 20) (λ c. search (cases, message-size) depth 20) (λ c. search (cases, message-size) depth 20))
+    (λ c. search cases depth 20) (λ c. search cases depth 20) (λ c. search needs) (λ c. search needs) (λ c. search needs)
+    (λ c. search needs) (λ c. search needs) (λ c. search needs) (λ c. search (cases, message-size) depth 20) (λ c. search cases depth 20)
+    (λ c. search cases depth 20) (λ c. search cases depth 20) (λ c. search cases depth 20))

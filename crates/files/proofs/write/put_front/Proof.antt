@@ -11,7 +11,7 @@ returns c =
     let g = f .before .before .before .before in
     let h = g .before .before .before .before in
     let i = h .before .before in (
-      front-as _ (i .before .code-of .ensures) (i .item-of .ensures) (h .put-1 .ensures .0) (g .put-12 .ensures .0) (f .put-13 .ensures .0)
+      front-as (i .before .before .before .args .m) (i .before .code-of .ensures) (i .item-of .ensures) (h .put-1 .ensures .0) (g .put-12 .ensures .0) (f .put-13 .ensures .0)
           (e .put-14 .ensures .0) (d .put-15 .ensures .0),
       search needs,
     )
