@@ -4,6 +4,7 @@ pub mod Contracts
 pub mod Eight
 pub mod Fits
 pub mod GivenBack
+pub mod HostWrites
 pub mod Records
 pub mod Same
 pub mod Shown
@@ -14,4 +15,5 @@ pub mod Turns
 pub mod Unread
 pub mod Values
 pub mod Worked
+pub mod WorkedRecords
 pub mod Writes
