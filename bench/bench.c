@@ -1,11 +1,15 @@
 /*
  * Listings of the same inputs, timed in one process: the proved one (rev_listing), the plain one (plain_listing) and
- * that of the independent model (reference_listing).
+ * that of the independent model (reference_listing). Then writers of the same events: the proved ones (rev_write_..)
+ * and the plain ones (plain_write_..).
  *
- *   bench [--roomy]                a table: nanoseconds for one call of each, and ratios to the plain one
+ *   bench [--roomy]                two tables: nanoseconds for one call of each listing, and for 64 KiB of records written
+ *                                  by each side's writers, with ratios to the plain one
  *   bench [--roomy] --once WHICH KIND SIZE [CALLS]
  *                                  no table, but CALLS calls (1 if it is not said, and 0 is none): WHICH rev or plain,
  *                                  KIND call, messages or expiries, SIZE in KiB (1 to 64)
+ *   bench --write WHICH KIND [CALLS]
+ *                                  no table, but 64 KiB of records written CALLS times; KIND may also be times
  *
  * Buffers have exactly the listing's length, which a call of the plain listing gives first, so that all have to measure the
  * whole file before they write; or under --roomy 4 MiB, which is more than any listing takes, so that the plain listing
@@ -17,7 +21,7 @@
  * share the work:
  *
  *   bench [--roomy] --figures      the native one: a line for each row, with the nanoseconds of reference and plain
- *   bench [--roomy] --emulated     the emulated one: the table, with those figures read from standard input
+ *   bench [--roomy] --emulated     the emulated one: the tables, with those figures read from standard input
  *
  * The inputs are built here and are the same in every run:
  *
@@ -26,10 +30,15 @@
  *              time out of range; an expiry, which has no row
  *   messages   only messages of the longest form, 31 bytes, before the opening
  *   expiries   only expiries, 4 bytes, before the opening: the most lines that a file can give
+ *
+ * What is written is alike: a call of events in range, with an access event in the place of the time out of range; messages;
+ * expiries; and times, of 8 bytes. The writers are called through pointers, and one record is written after another until
+ * none fits.
  */
 #define _POSIX_C_SOURCE 200809L
 
 #include "plain.h"
+#include "../host/c/rev.h"
 
 #include <stdio.h>
 #include <stdlib.h>
@@ -40,9 +49,6 @@ typedef size_t listing(const uint8_t *file, size_t file_len, uint8_t *out, size_
 
 enum which { REV, PLAIN, REFERENCE, LISTINGS };
 
-#ifndef WITHOUT_REV
-extern listing rev_listing;
-#endif
 #ifdef WITH_REFERENCE
 extern listing reference_listing;
 #endif
@@ -142,6 +148,114 @@ static size_t build(const struct kind *kind, size_t size)
     }
 }
 
+/* ---- What is written ---- */
+
+/* One side's writers. */
+struct writers {
+    uint32_t (*opening)(uint8_t, uint8_t, uint8_t, uint64_t, uint8_t *, size_t);
+    uint32_t (*request)(uint8_t, uint8_t, uint64_t, uint8_t *, size_t);
+    uint32_t (*message)(uint8_t, uint8_t, uint8_t, uint8_t, uint8_t, uint8_t, uint64_t, uint8_t, uint64_t, uint32_t, uint8_t *, size_t);
+    uint32_t (*access)(uint8_t, uint8_t, uint8_t *, size_t);
+    uint32_t (*expiry)(uint8_t *, size_t);
+    uint32_t (*time)(uint32_t, uint8_t *, size_t);
+};
+
+#define WRITERS(side)                                                                                             \
+    {side##_write_opening, side##_write_request, side##_write_message, side##_write_access, side##_write_expiry, \
+     side##_write_time}
+
+/* Null pointers where they are not linked; the reference has none. */
+static const struct writers writers[LISTINGS] = {
+#ifndef WITHOUT_REV
+    [REV] = WRITERS(rev),
+#endif
+    [PLAIN] = WRITERS(plain),
+};
+
+static int has_writers(int which)
+{
+    return writers[which].expiry != NULL;
+}
+
+/*
+ * The place after a record of this size at `at`; the same place if it was refused. The size is known here, so that the
+ * writers are timed and not a wait for the length that they have just written.
+ */
+static size_t after(size_t at, size_t size, uint32_t given)
+{
+    return given == REV_WRITTEN ? at + size : at;
+}
+
+#define HERE out + at, LONGEST_FILE - at
+#define LONGEST_FIELDS 5, 0, 2, 3, 0x76, 7, 5550100, 15, 999999999999999, 60
+
+static size_t write_call(const struct writers *side)
+{
+    size_t at = 0, from;
+
+    at = after(at, 15, side->opening(0, 8, 7, 5550100, HERE));
+    at = after(at, 14, side->request(1, 7, 5550123, HERE));
+    at = after(at, 9, side->message(2, 0, 2, 1, 0, 0, 0, 0, 0, 0, HERE));
+    do {
+        from = at;
+        at = after(at, 8, side->time(3600, HERE));
+        at = after(at, 18, side->message(5, 0, 1, 3, 32, 0, 0, 7, 5550123, 0, HERE));
+        at = after(at, 14, side->request(2, 0, 0, HERE));
+        at = after(at, 31, side->message(LONGEST_FIELDS, HERE));
+        at = after(at, 6, side->access(2, 12, HERE));
+        at = after(at, 4, side->expiry(HERE));
+    } while (at > from);
+    return at;
+}
+
+static size_t write_messages(const struct writers *side)
+{
+    size_t at = 0, from;
+
+    do {
+        from = at;
+        at = after(at, 31, side->message(LONGEST_FIELDS, HERE));
+    } while (at > from);
+    return at;
+}
+
+static size_t write_expiries(const struct writers *side)
+{
+    size_t at = 0, from;
+
+    do {
+        from = at;
+        at = after(at, 4, side->expiry(HERE));
+    } while (at > from);
+    return at;
+}
+
+static size_t write_times(const struct writers *side)
+{
+    size_t at = 0, from;
+
+    do {
+        from = at;
+        at = after(at, 8, side->time(3600, HERE));
+    } while (at > from);
+    return at;
+}
+
+/* Writes up to 64 KiB of records to `out`; gives how many bytes they have. */
+typedef size_t writing(const struct writers *side);
+
+static const struct written {
+    const char *name;
+    writing *write;
+} writings[] = {
+    {"call", write_call},
+    {"messages", write_messages},
+    {"expiries", write_expiries},
+    {"times", write_times},
+};
+
+enum { WRITINGS = sizeof writings / sizeof *writings };
+
 /* ---- The check ---- */
 
 static int is_filler(const uint8_t *from, const uint8_t *end)
@@ -178,6 +292,32 @@ static size_t check(size_t file_len)
     return length;
 }
 
+/* Gives how many bytes are written if all write the same and leave the rest of the buffer; else 0. */
+static size_t check_writing(writing *write)
+{
+    size_t length;
+
+    memset(expected, FILLER, ROOM);
+    memset(out, FILLER, ROOM);
+    length = write(&writers[PLAIN]);
+    memcpy(expected, out, length);
+    for (int i = 0; i < LISTINGS; i++) {
+        memset(out, FILLER, ROOM);
+        if (has_writers(i) && (write(&writers[i]) != length || memcmp(out, expected, ROOM) != 0))
+            return 0;
+    }
+    return length;
+}
+
+static size_t count_records(size_t length)
+{
+    size_t records = 0;
+
+    for (size_t at = 0; at < length; at += rev_record_length(expected + at))
+        records++;
+    return records;
+}
+
 /* ---- The times ---- */
 
 /* The processor's time of this process, which leaves out what others take. */
@@ -189,12 +329,30 @@ static int64_t now(void)
     return (int64_t)time.tv_sec * 1000000000 + time.tv_nsec;
 }
 
-static int64_t time_calls(listing *list, size_t file_len, size_t room, long calls)
+/* What is timed: a listing of `file`, or else the writing of some records. Nothing where it is not linked. */
+struct work {
+    listing *list;
+    size_t file_len, room;
+    writing *write;
+    const struct writers *writers;
+};
+
+static int is_there(const struct work *work)
+{
+    return work->list != NULL || work->write != NULL;
+}
+
+static size_t do_work(const struct work *work)
+{
+    return work->list != NULL ? work->list(file, work->file_len, out, work->room) : work->write(work->writers);
+}
+
+static int64_t time_calls(const struct work *work, long calls)
 {
     int64_t start = now();
 
     for (long i = 0; i < calls; i++) {
-        size_t length = list(file, file_len, out, room);
+        size_t length = do_work(work);
 
         sum += length + out[length / 2];
     }
@@ -202,35 +360,54 @@ static int64_t time_calls(listing *list, size_t file_len, size_t room, long call
 }
 
 /* How many calls a run takes to last long enough. */
-static long calibrate(listing *list, size_t file_len, size_t room)
+static long calibrate(const struct work *work)
 {
     long calls = 1;
 
-    while (time_calls(list, file_len, room, calls) < RUN_TIME)
+    while (time_calls(work, calls) < RUN_TIME)
         calls *= 2;
     return calls;
 }
 
-/* Sets the best nanoseconds for one call of each listing. They take turns, so that a slow moment meets all of them. */
-static void time_all(size_t file_len, size_t room, double best[LISTINGS])
+/* Sets the best nanoseconds for one call of each work. They take turns, so that a slow moment meets all of them. */
+static void time_all(const struct work works[LISTINGS], double best[LISTINGS])
 {
     long calls[LISTINGS];
 
     for (int i = 0; i < LISTINGS; i++) {
         best[i] = 1e30;
-        if (listings[i] != NULL)
-            calls[i] = calibrate(listings[i], file_len, room);
+        if (is_there(&works[i]))
+            calls[i] = calibrate(&works[i]);
     }
     for (int run = 0; run < RUNS; run++) {
         for (int i = 0; i < LISTINGS; i++) {
-            if (listings[i] != NULL) {
-                double once = (double)time_calls(listings[i], file_len, room, calls[i]) / calls[i];
+            if (is_there(&works[i])) {
+                double once = (double)time_calls(&works[i], calls[i]) / calls[i];
 
                 if (once < best[i])
                     best[i] = once;
             }
         }
     }
+}
+
+static void time_listings(size_t file_len, size_t room, double best[LISTINGS])
+{
+    struct work works[LISTINGS] = {{NULL}};
+
+    for (int i = 0; i < LISTINGS; i++)
+        works[i] = (struct work){.list = listings[i], .file_len = file_len, .room = room};
+    time_all(works, best);
+}
+
+static void time_writing(writing *write, double best[LISTINGS])
+{
+    struct work works[LISTINGS] = {{NULL}};
+
+    for (int i = 0; i < LISTINGS; i++)
+        if (has_writers(i))
+            works[i] = (struct work){.write = write, .writers = &writers[i]};
+    time_all(works, best);
 }
 
 /* ---- What is printed ---- */
@@ -292,7 +469,7 @@ static int table(int roomy, enum output output)
                 fprintf(stderr, "bench: the listings of %s, %zu bytes, differ\n", kinds[k].name, file_len);
                 return 1;
             }
-            time_all(file_len, roomy ? ROOM : length, ns);
+            time_listings(file_len, roomy ? ROOM : length, ns);
             if (!print_row(kinds[k].name, file_len, length, ns, output)) {
                 fputs("\nbench: the native figures are not on standard input\n", stderr);
                 return 1;
@@ -304,6 +481,34 @@ static int table(int roomy, enum output output)
     return 0;
 }
 
+static int writing_table(void)
+{
+    printf("\nThe same for %d KiB of records, written one by one.\n\n", LONGEST_FILE / KIB);
+    printf("%-9s %11s %14s %12s %12s %10s\n", "input", "records", "bytes", "rev ns", "plain ns", "rev/plain");
+    for (int k = 0; k < WRITINGS; k++) {
+        size_t length = check_writing(writings[k].write);
+        double ns[LISTINGS];
+
+        if (length == 0) {
+            fprintf(stderr, "bench: what is written of %s differs\n", writings[k].name);
+            return 1;
+        }
+        time_writing(writings[k].write, ns);
+        printf("%-9s %11zu %14zu %12.0f %12.0f %10.2f\n", writings[k].name, count_records(length), length, ns[REV], ns[PLAIN],
+               ns[REV] / ns[PLAIN]);
+        fflush(stdout);
+    }
+    printf("\nAll records were the same. (sum %llu)\n", (unsigned long long)sum);
+    return 0;
+}
+
+static int tables(int roomy, enum output output)
+{
+    int status = table(roomy, output);
+
+    return status == 0 && output != FIGURES ? writing_table() : status;
+}
+
 /* Reads a number from 0 to `most`; gives whether it is one. */
 static int read_number(const char *text, unsigned long most, unsigned long *number)
 {
@@ -313,13 +518,20 @@ static int read_number(const char *text, unsigned long most, unsigned long *numb
     return *text >= '0' && *text <= '9' && *end == '\0' && *number <= most;
 }
 
+/* Reads which side is meant; gives whether it is one that is linked. */
+static int read_which(const char *text, enum which *which)
+{
+    *which = strcmp(text, "rev") == 0 ? REV : PLAIN;
+    return (*which == REV || strcmp(text, "plain") == 0) && listings[*which] != NULL;
+}
+
 static int once(int roomy, const char *which, const char *kind_name, const char *size_text, const char *calls_text)
 {
-    enum which chosen = strcmp(which, "rev") == 0 ? REV : PLAIN;
+    enum which chosen;
     unsigned long size, calls;
 
-    if ((chosen == PLAIN && strcmp(which, "plain") != 0) || listings[chosen] == NULL ||
-        !read_number(size_text, LONGEST_FILE / KIB, &size) || size == 0 || !read_number(calls_text, 1000000, &calls))
+    if (!read_which(which, &chosen) || !read_number(size_text, LONGEST_FILE / KIB, &size) || size == 0 ||
+        !read_number(calls_text, 1000000, &calls))
         return 2;
     for (int k = 0; k < KINDS; k++) {
         if (strcmp(kinds[k].name, kind_name) == 0) {
@@ -336,6 +548,26 @@ static int once(int roomy, const char *which, const char *kind_name, const char 
     return 2;
 }
 
+static int write_once(const char *which, const char *kind_name, const char *calls_text)
+{
+    enum which chosen;
+    unsigned long calls;
+
+    if (!read_which(which, &chosen) || !read_number(calls_text, 1000000, &calls))
+        return 2;
+    for (int k = 0; k < WRITINGS; k++) {
+        if (strcmp(writings[k].name, kind_name) == 0) {
+            size_t length = check_writing(writings[k].write);
+
+            for (unsigned long i = 0; i < calls; i++)
+                length = writings[k].write(&writers[chosen]);
+            printf("%s: %s, %zu records of %zu bytes\n", which, kind_name, count_records(length), length);
+            return 0;
+        }
+    }
+    return 2;
+}
+
 int main(int count, char **words)
 {
     int roomy = count > 1 && strcmp(words[1], "--roomy") == 0;
@@ -344,15 +576,18 @@ int main(int count, char **words)
     count -= roomy;
     words += roomy;
     if (count == 1)
-        status = table(roomy, TABLE);
+        status = tables(roomy, TABLE);
     else if (count == 2 && strcmp(words[1], "--emulated") == 0)
-        status = table(roomy, EMULATED_TABLE);
+        status = tables(roomy, EMULATED_TABLE);
     else if (count == 2 && strcmp(words[1], "--figures") == 0)
-        status = table(roomy, FIGURES);
+        status = tables(roomy, FIGURES);
     else if ((count == 5 || count == 6) && strcmp(words[1], "--once") == 0)
         status = once(roomy, words[2], words[3], words[4], count == 6 ? words[5] : "1");
+    else if ((count == 4 || count == 5) && !roomy && strcmp(words[1], "--write") == 0)
+        status = write_once(words[2], words[3], count == 5 ? words[4] : "1");
     if (status == 2)
         fputs("usage: bench [--roomy] [--once rev|plain call|messages|expiries 1..64 [CALLS]]\n"
+              "       bench --write rev|plain call|messages|expiries|times [CALLS]\n"
               "       bench [--roomy] --figures | --emulated\n",
               stderr);
     return status;

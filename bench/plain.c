@@ -1,6 +1,7 @@
 /*
- * The listing of an event file in plain C: what the proved listing is compared with, in bytes and in time. It shares no
- * code with it. Labels such as G3, O27 or D8 are those of the table of rows; numbers given back are in enum answer.
+ * The listing of an event file, and writers of its records, in plain C: what the proved ones are compared with, in bytes
+ * and in time. It shares no code with them. Labels such as G3, O27 or D8 are those of the table of rows; numbers given
+ * back are in enum answer.
  *
  * Nothing may be written if the listing doesn't fit. A record's text has a longest form, so the bytes left of a file
  * bound the text to come: as soon as this bound says that the buffer is large enough, the file is listed in one run
@@ -217,6 +218,12 @@ static int detail_in_range(unsigned component, unsigned detail)
     }
 }
 
+/* Part 4 is not without part 2. */
+static int parts_in_range(unsigned parts)
+{
+    return !(parts & PART_UNKNOWN) && (parts & (PART_ACCEPTED | PART_AS_TRANSFER)) != PART_AS_TRANSFER;
+}
+
 static int read_message(const uint8_t *body, struct event *event)
 {
     const uint8_t *at = body + 5;
@@ -230,7 +237,7 @@ static int read_message(const uint8_t *body, struct event *event)
         return 0;
     if (!detail_in_range(event->component, event->detail))
         return 0;
-    if ((event->bits & PART_UNKNOWN) || (event->bits & (PART_ACCEPTED | PART_AS_TRANSFER)) == PART_AS_TRANSFER)
+    if (!parts_in_range(event->bits))
         return 0;
     if (event->bits & PART_CALLING) {
         if (!digits_in_range(read_digits(at)))
@@ -1216,4 +1223,123 @@ size_t plain_listing(const uint8_t *file, size_t file_len, uint8_t *out, size_t 
     while (history.at != history.end)
         to = put_record(to, &history);
     return (size_t)(put_end(to, &history) - out);
+}
+
+/* ---- Writing ---- */
+
+static uint8_t *store(uint8_t *to, unsigned byte)
+{
+    *to = (uint8_t)byte;
+    return to + 1;
+}
+
+/*
+ * The least byte first, in one store: compilers for the machines that the bench is for make more of that than of four or
+ * eight bytes, each shifted down and stored.
+ */
+_Static_assert(__BYTE_ORDER__ == __ORDER_LITTLE_ENDIAN__, "numbers are stored as they stand in memory");
+
+static uint8_t *store_four(uint8_t *to, uint32_t value)
+{
+    memcpy(to, &value, sizeof value);
+    return to + sizeof value;
+}
+
+static uint8_t *store_digits(uint8_t *to, struct digits digits)
+{
+    to = store(to, digits.count);
+    memcpy(to, &digits.value, sizeof digits.value);
+    return to + sizeof digits.value;
+}
+
+/* The length, of which the second byte is 0 in every record, and the kind. */
+static uint8_t *store_head(uint8_t *to, unsigned length, enum kind kind)
+{
+    return store_four(to, length | (uint32_t)kind << 16);
+}
+
+/* In range where they are wanted, else none. */
+static int digits_as_wanted(int wanted, struct digits digits)
+{
+    return wanted ? digits_in_range(digits) : digits.count == 0 && digits.value == 0;
+}
+
+uint32_t plain_write_opening(uint8_t role, uint8_t flags, uint8_t own_count, uint64_t own_value, uint8_t *out, size_t out_len)
+{
+    struct digits own = {.value = own_value, .count = own_count};
+
+    if (role > DESTINATION || flags > 31 || !digits_in_range(own))
+        return OUT_OF_RANGE;
+    if (out_len < 15)
+        return REFUSED;
+    store_digits(store(store(store_head(out, 13, KIND_OPENING), role), flags), own);
+    return APPLIED;
+}
+
+uint32_t plain_write_request(uint8_t request, uint8_t called_count, uint64_t called_value, uint8_t *out, size_t out_len)
+{
+    struct digits called = {.value = called_value, .count = called_count};
+
+    if (request > REQUEST_C || !digits_as_wanted(request <= REQUEST_A, called))
+        return OUT_OF_RANGE;
+    if (out_len < 14)
+        return REFUSED;
+    store_digits(store(store_head(out, 12, KIND_REQUEST), request), called);
+    return APPLIED;
+}
+
+uint32_t plain_write_message(uint8_t message, uint8_t cause, uint8_t component, uint8_t item, uint8_t parts, uint8_t calling_count,
+                             uint64_t calling_value, uint8_t called_count, uint64_t called_value, uint32_t duration, uint8_t *out,
+                             size_t out_len)
+{
+    struct digits calling = {.value = calling_value, .count = calling_count};
+    struct digits called = {.value = called_value, .count = called_count};
+    unsigned length = 7 + parts_length(parts);
+    uint8_t *to;
+
+    if (message < IAM || message > FAC || cause > 127 || !detail_in_range(component, item) || !parts_in_range(parts))
+        return OUT_OF_RANGE;
+    if (!digits_as_wanted(parts & PART_CALLING, calling) || !digits_as_wanted(parts & PART_CALLED, called))
+        return OUT_OF_RANGE;
+    if (!(parts & PART_DURATION) && duration != 0)
+        return OUT_OF_RANGE;
+    if (out_len < 2 + length)
+        return REFUSED;
+    to = store_head(out, length, KIND_MESSAGE);
+    to = store(store(store(store(store(to, message), cause), component), item), parts);
+    if (parts & PART_CALLING)
+        to = store_digits(to, calling);
+    if (parts & PART_CALLED)
+        to = store_digits(to, called);
+    if (parts & PART_DURATION)
+        store_four(to, duration);
+    return APPLIED;
+}
+
+uint32_t plain_write_access(uint8_t told, uint8_t error, uint8_t *out, size_t out_len)
+{
+    if (told < ACCESS_ACCEPT || told > ACCESS_ANSWER || (told != ACCESS_ERROR && error != 0))
+        return OUT_OF_RANGE;
+    if (out_len < 6)
+        return REFUSED;
+    store(store(store_head(out, 4, KIND_ACCESS), told), error);
+    return APPLIED;
+}
+
+uint32_t plain_write_expiry(uint8_t *out, size_t out_len)
+{
+    if (out_len < 4)
+        return REFUSED;
+    store_head(out, 2, KIND_EXPIRY);
+    return APPLIED;
+}
+
+uint32_t plain_write_time(uint32_t seconds, uint8_t *out, size_t out_len)
+{
+    if (seconds > DAY)
+        return OUT_OF_RANGE;
+    if (out_len < 8)
+        return REFUSED;
+    store_four(store_head(out, 6, KIND_TIME), seconds);
+    return APPLIED;
 }

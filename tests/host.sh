@@ -12,6 +12,7 @@ sh host/c/build
 . host/kit.sh
 archive=target/staticlib/librev.a
 room=target/host
+functions='rev_dump rev_listing rev_write_access rev_write_expiry rev_write_message rev_write_opening rev_write_request rev_write_time '
 # so that a finding is none of the example's own statuses
 export ASAN_OPTIONS=exitcode=99 UBSAN_OPTIONS=exitcode=99
 
@@ -29,22 +30,25 @@ check_archive() {
     asked=$(nm -u "$archive" | awk '$1 == "U" { print $2 }' | sort -u | tr '\n' ' ')
     [ -z "$asked" ] || fail "the archive asks for $asked"
     exported=$(nm -g --defined-only "$archive" | awk 'NF == 3 { print $3 }' | sort -u | tr '\n' ' ')
-    [ "$exported" = "rev_dump rev_listing " ] || fail "the archive exports ${exported:-nothing }and not rev_dump rev_listing alone"
+    [ "$exported" = "$functions" ] || fail "the archive exports ${exported:-nothing }and not ${functions}alone"
     kept=$(awk 'NF > 1 && $(NF - 1) ~ /^[BbCDdGgSs]$/ { print $NF }' $room/names | tr '\n' ' ')
     [ -z "$kept" ] || fail "the archive has memory of its own, that can be written: $kept"
-    echo "host: the archive exports rev_dump and rev_listing alone, asks for nothing and keeps nothing"
+    echo "host: the archive exports ${functions}alone, asks for nothing and keeps nothing"
 }
 
 # Another folder, with the header, the archive and a host: the strictest build links at any address and gives no warning.
 check_copied() {
     rm -rf $room/copied
     mkdir $room/copied
-    cp host/c/rev.h "$archive" host/c/example.c host/c/test.cpp $room/copied
+    cp host/c/rev.h "$archive" host/c/example.c host/c/write.c host/c/test.cpp $room/copied
     strict='-pedantic -Wall -Wextra -Werror'
-    # shellcheck disable=SC2086
-    (cd $room/copied && cc -std=c99 $strict -fPIE -pie -Wl,-z,text,--fatal-warnings -o example example.c librev.a) ||
-        fail "the example does not build beside header and archive alone"
+    for program in example write; do
+        # shellcheck disable=SC2086
+        (cd $room/copied && cc -std=c99 $strict -fPIE -pie -Wl,-z,text,--fatal-warnings -o $program $program.c librev.a) ||
+            fail "$program.c does not build beside header and archive alone"
+    done
     $room/copied/example examples/room-pays.rev | cmp - examples/room-pays.txt || fail "the example that was copied prints another text"
+    $room/copied/write $room/copied/l.rev | cmp - $room/case-l.txt || fail "the writing example that was copied prints another text"
     if ! command -v c++ >/dev/null; then
         echo "host: the header in C++ is skipped, there is no c++ here"
         return
@@ -65,6 +69,27 @@ write_files() {
     done
     awk 'BEGIN { print "REV 1"; for (i = 1; i <= 16384; i++) print i, "1 NONE IDLE 0 0 0"; print "END 16384" }' >$room/most.txt
     { cat $room/most.rev; printf '\002'; } >$room/over.rev
+    # case L of tests/cases.txt: its records in hex, and its listing
+    sed -n '/^## case-L$/,/^=$/p' tests/cases.txt | grep -v '[^0-9a-f]' >$room/case-l.hex
+    sed -n '/^## case-L$/,/^$/p' tests/cases.txt | sed '1,/^=$/d; /^$/d' >$room/case-l.txt
+    { [ -s $room/case-l.hex ] && [ -s $room/case-l.txt ]; } || fail "tests/cases.txt has no case L"
+}
+
+# The host that writes: its file and its listing are those of case L, and what is wrong is said.
+check_writing() {
+    run_x86_64 "$hosts/write" $room/case-l.rev >$room/printed || fail "$hosts/write ended with $?"
+    cmp -s $room/printed $room/case-l.txt || fail "$hosts/write does not print the listing of case L"
+    written=$(od -An -v -tx1 $room/case-l.rev | tr -d ' \n')
+    [ "$written" = "$(tr -d '\n' <$room/case-l.hex)" ] || fail "$hosts/write does not write the records of case L"
+    program='write'
+    refuses 2 "usage: write FILE"
+    refuses 2 "usage: write FILE" $room/one.rev $room/two.rev
+    refuses 2 "$room: Is a directory" $room
+    want=2 saying='standard output: ' status=0
+    run_x86_64 "$hosts/write" $room/case-l.rev >/dev/full 2>$room/said || status=$?
+    check_said ">/dev/full"
+    program=example
+    echo "host: $hosts/write writes case L and prints its listing"
 }
 
 # prints TEXT WORDS..: the example with these words prints the text of that file.
@@ -75,25 +100,25 @@ prints() {
     cmp -s $room/printed "$text" || fail "$hosts/example $* does not print what is in $text"
 }
 
-# refuses STATUS SAYING WORDS..: it prints nothing, says one line with SAYING in it, and ends with STATUS.
+# refuses STATUS SAYING WORDS..: $program prints nothing, says one line with SAYING in it, and ends with STATUS.
 refuses() {
     want=$1 saying=$2
     shift 2
     status=0
-    run_x86_64 "$hosts/example" "$@" >$room/printed 2>$room/said || status=$?
-    [ ! -s $room/printed ] || fail "$hosts/example $* prints, and should not"
+    run_x86_64 "$hosts/$program" "$@" >$room/printed 2>$room/said || status=$?
+    [ ! -s $room/printed ] || fail "$hosts/$program $* prints, and should not"
     check_said "$@"
 }
 
 check_said() {
     if [ $status -ne "$want" ] || [ "$(wc -l <$room/said)" -ne 1 ] || ! grep -q "$saying" $room/said; then
-        fail "$hosts/example $* should say '$saying' and end with $want; it ended with $status and said: $(cat $room/said)"
+        fail "$hosts/$program $* should say '$saying' and end with $want; it ended with $status and said: $(cat $room/said)"
     fi
 }
 
-# check_hosts FOLDER: the programs test and example that were built there.
+# check_hosts FOLDER: the programs test, example and write that were built there.
 check_hosts() {
-    hosts=$1
+    hosts=$1 program=example
     printf 'host: '
     run_x86_64 "$hosts/test" examples/*.rev || fail "$hosts/test ended with $?"
     for file in examples/*.rev; do
@@ -138,6 +163,7 @@ check_hosts() {
         check_said "$file" ">&-"
     done
     echo "host: $hosts/example prints the listing and dump of each example, and says what is wrong with sizes, files and standard output"
+    check_writing
 }
 
 # Whether cc builds programs with the sanitizers, and they run.
@@ -161,7 +187,7 @@ if ! has_sanitizers; then
     exit 0
 fi
 mkdir -p $room/sanitized
-for program in example test; do
+for program in example write test; do
     # shellcheck disable=SC2086
     cc -std=c11 -g -O1 $sanitizers -Wall -Wextra -o $room/sanitized/$program host/c/$program.c $archive
 done

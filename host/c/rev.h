@@ -1,6 +1,6 @@
 /*
- * The listing and the dump of an event file, for a host written in C or C++ on x86-64. Link with librev.a, which host/c/build makes
- * and which needs nothing else. docs/FORMAT.md has the file, the listing and the dump.
+ * The listing and the dump of an event file, and writers of its records, for a host written in C or C++ on x86-64. Link with librev.a,
+ * which host/c/build makes and which needs nothing else. docs/FORMAT.md has the file, the listing and the dump.
  */
 #ifndef REV_H
 #define REV_H
@@ -18,8 +18,18 @@ extern "C" {
 /* The most bytes that a file may have. */
 #define REV_LONGEST 65536u
 
-/* Given back in the place of a length, and never a length itself: every listing has at least 12 bytes, every dump 10. */
+/*
+ * Given back by the listing and the dump in the place of a length, and never a length itself: every listing has at least 12 bytes, every
+ * dump 10. Given back by a writer, which gives no length, where the record has more bytes than there is room.
+ */
 #define REV_TOO_LONG 8u
+
+/* Given back by a writer: the record is written; a field is out of its range. */
+#define REV_WRITTEN 0u
+#define REV_BAD_FIELD 3u
+
+/* The most bytes that a record has, its two length bytes among them. In so much room no writer gives REV_TOO_LONG. */
+#define REV_RECORD 31u
 
 /* With it gcc and clang warn of a null pointer that they see, and their sanitizer finds one that they do not. */
 #ifdef __GNUC__
@@ -52,6 +62,39 @@ extern "C" {
  */
 size_t rev_listing(const uint8_t *file, size_t file_len, uint8_t *out, size_t out_len) REV_NOT_NULL;
 size_t rev_dump(const uint8_t *file, size_t file_len, uint8_t *out, size_t out_len) REV_NOT_NULL;
+
+/*
+ * Each of these writes the record of one event at the start of the out_len bytes at `out`: kinds 1 to 6 of docs/FORMAT.md in their order,
+ * with the fields in the order of the record. A telephone number is a count of digits and a value; where none is wanted (request 2 and 3;
+ * a part that is not named) both are 0, and so is a Duration that the parts do not name. `item` is the operation or the error number of
+ * the component, else 0.
+ *
+ *   REV_WRITTEN      the record stands at `out`, and bytes past it are as they were; rev_record_length tells how long it is
+ *   REV_BAD_FIELD    a field is out of its range, or a number or Duration is there that the event does not name
+ *   REV_TOO_LONG     all fields are in range, and the record has more than out_len bytes
+ *
+ * The number is the low byte of what they give; the rest is 0. On both refusals every byte of `out` is as it was. What they write, the
+ * listing and the dump read back as the same event.
+ *
+ * This holds for any fields and any length, 0 among them. What they ask: `out` is not null, even at length 0, and out_len bytes are there
+ * to be written; none outside is touched. They too keep nothing between calls, allocate nothing and call nothing.
+ *
+ * The promise is proved of crates/files/src/write.rt. That these declarations fit it is tested (test.c) and not proved.
+ */
+uint32_t rev_write_opening(uint8_t role, uint8_t flags, uint8_t own_count, uint64_t own_value, uint8_t *out, size_t out_len) REV_NOT_NULL;
+uint32_t rev_write_request(uint8_t request, uint8_t called_count, uint64_t called_value, uint8_t *out, size_t out_len) REV_NOT_NULL;
+uint32_t rev_write_message(uint8_t message, uint8_t cause, uint8_t component, uint8_t item, uint8_t parts, uint8_t calling_count,
+                           uint64_t calling_value, uint8_t called_count, uint64_t called_value, uint32_t duration, uint8_t *out,
+                           size_t out_len) REV_NOT_NULL;
+uint32_t rev_write_access(uint8_t told, uint8_t error, uint8_t *out, size_t out_len) REV_NOT_NULL;
+uint32_t rev_write_expiry(uint8_t *out, size_t out_len) REV_NOT_NULL;
+uint32_t rev_write_time(uint32_t seconds, uint8_t *out, size_t out_len) REV_NOT_NULL;
+
+/* The bytes of a record that was written: its first two count those that follow them. */
+static inline size_t rev_record_length(const uint8_t *record)
+{
+    return 2u + record[0] + 256u * record[1];
+}
 
 #ifdef __cplusplus
 }

@@ -17,11 +17,13 @@ use ghost.Atoms.{Atoms}
 use prog.Memory.{Memory}
 use prog.Routine.{Routine}
 use prog.Wp.{Heap}
+use Rattle.rows.specs.declared.Event.the-variants.{Opening, Ask, FromAccess, Expiry, Time}
 use Rattle.files.specs.Bodies.{readAt}
 use Rattle.files.specs.Dump.{dumpOf}
 use Rattle.files.specs.Listing.{listingOf}
 use Rattle.files.specs.Places.{placesOf}
-use Rattle.files.proofs.Same.{Fitted, Opened, Moved}
+use Rattle.files.specs.Write.{numberWith, messageWith}
+use Rattle.files.proofs.Same.{Fitted, Opened, Moved, Wrote, Numbered}
 use Rattle.files.proofs.bodies.read_at as read-at
 use Rattle.files.proofs.dump.rev_dump as rev-dump
 use Rattle.files.proofs.lent.found_at as found-at
@@ -30,6 +32,13 @@ use Rattle.files.proofs.lent.next as next
 use Rattle.files.proofs.lent.open as opens
 use Rattle.files.proofs.listing.rev_listing as rev-listing
 use Rattle.files.proofs.places.count_records as count-records
+use Rattle.files.proofs.write.rev_write_access as rev-write-access
+use Rattle.files.proofs.write.rev_write_expiry as rev-write-expiry
+use Rattle.files.proofs.write.rev_write_message as rev-write-message
+use Rattle.files.proofs.write.rev_write_opening as rev-write-opening
+use Rattle.files.proofs.write.rev_write_request as rev-write-request
+use Rattle.files.proofs.write.rev_write_time as rev-write-time
+use Rattle.files.proofs.write.write_event as write-event
 
 module _ {M : Type 1} (𝓤 : URA M) (H : Heap 𝓤) (A : Atoms 𝓤) (mem : Memory → SProp 𝓤) (run : Routine → Fun 𝓤) where
   -- The contract that asks for nothing and says P of the result and of the parameters as they are left.
@@ -80,3 +89,47 @@ module _ {M : Type 1} (𝓤 : URA M) (H : Heap 𝓤) (A : Atoms 𝓤) (mem : Mem
   pub count-records-says : (κs : Lfts 1) (a : Args count-records.signature κs) →
       count-records.spec 𝓤 H A mem run κs a ≡ Promises count-records.ended κs a (λ n last. n ≡ length (placesOf (now (a .0))))
   count-records-says κs a = refl
+
+  -- a .0 is the event, a .1 .0 the buffer
+  pub write-event-says : (κs : Lfts 1) (a : Args write-event.signature κs) →
+      write-event.spec 𝓤 H A mem run κs a
+      ≡ Promises write-event.ended κs a (λ w last. Wrote (a .0) (now (a .1 .0)) w (now (last .1 .0)))
+  write-event-says κs a = refl
+
+  -- the fields, then the buffer
+  pub rev-write-opening-says : (κs : Lfts 1) (a : Args rev-write-opening.signature κs) →
+      rev-write-opening.spec 𝓤 H A mem run κs a
+      ≡ Promises rev-write-opening.ended κs a
+      (λ r last. Numbered (Opening (a .0) (a .1 .0) (numberWith (a .1 .1 .0) (a .1 .1 .1 .0))) (now (a .1 .1 .1 .1 .0)) r (now (last .1 .1 .1 .1 .0)))
+  rev-write-opening-says κs a = refl
+
+  pub rev-write-request-says : (κs : Lfts 1) (a : Args rev-write-request.signature κs) →
+      rev-write-request.spec 𝓤 H A mem run κs a
+      ≡ Promises rev-write-request.ended κs a
+      (λ r last. Numbered (Ask (a .0) (numberWith (a .1 .0) (a .1 .1 .0))) (now (a .1 .1 .1 .0)) r (now (last .1 .1 .1 .0)))
+  rev-write-request-says κs a = refl
+
+  pub rev-write-message-says : (κs : Lfts 1) (a : Args rev-write-message.signature κs) →
+      rev-write-message.spec 𝓤 H A mem run κs a
+      ≡ Promises rev-write-message.ended κs a
+      (λ r last. Numbered
+      (messageWith (a .0) (a .1 .0) (a .1 .1 .0) (a .1 .1 .1 .0) (a .1 .1 .1 .1 .0)
+      (numberWith (a .1 .1 .1 .1 .1 .0) (a .1 .1 .1 .1 .1 .1 .0))
+      (numberWith (a .1 .1 .1 .1 .1 .1 .1 .0) (a .1 .1 .1 .1 .1 .1 .1 .1 .0)) (a .1 .1 .1 .1 .1 .1 .1 .1 .1 .0))
+      (now (a .1 .1 .1 .1 .1 .1 .1 .1 .1 .1 .0)) r (now (last .1 .1 .1 .1 .1 .1 .1 .1 .1 .1 .0)))
+  rev-write-message-says κs a = refl
+
+  pub rev-write-access-says : (κs : Lfts 1) (a : Args rev-write-access.signature κs) →
+      rev-write-access.spec 𝓤 H A mem run κs a
+      ≡ Promises rev-write-access.ended κs a (λ r last. Numbered (FromAccess (a .0) (a .1 .0)) (now (a .1 .1 .0)) r (now (last .1 .1 .0)))
+  rev-write-access-says κs a = refl
+
+  pub rev-write-expiry-says : (κs : Lfts 1) (a : Args rev-write-expiry.signature κs) →
+      rev-write-expiry.spec 𝓤 H A mem run κs a
+      ≡ Promises rev-write-expiry.ended κs a (λ r last. Numbered Expiry (now (a .0)) r (now (last .0)))
+  rev-write-expiry-says κs a = refl
+
+  pub rev-write-time-says : (κs : Lfts 1) (a : Args rev-write-time.signature κs) →
+      rev-write-time.spec 𝓤 H A mem run κs a
+      ≡ Promises rev-write-time.ended κs a (λ r last. Numbered (Time (a .0)) (now (a .1 .0)) r (now (last .1 .0)))
+  rev-write-time-says κs a = refl

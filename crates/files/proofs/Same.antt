@@ -6,11 +6,14 @@ use mathlib.Core.List.{List}
 use Prim.Native.Nat.{ℕ}
 use denote.Ref.{RefT, now}
 use Rattle.text.proofs.Same.{same}
+use Rattle.rows.specs.declared.Event.{Event}
 use Rattle.files.specs.Bodies.{readAt}
 use Rattle.files.specs.Fit.{answers, leaves}
 use Rattle.files.specs.Places.{placeAfter}
+use Rattle.files.specs.Write.{writtenOf, leftOf, numberOf}
 use Rattle.files.specs.declared.Read.{Read}
 use Rattle.files.specs.declared.Reader.{Reader}
+use Rattle.files.specs.declared.Written.{Written}
 
 -- What `rev_listing` and `rev_dump` say, t being the listing or the dump: the number given back, and the bytes that the buffer then holds.
 abbrev pub Fitted : List ℕ → List ℕ → List ℕ → ℕ → List ℕ → Type 0
@@ -45,3 +48,19 @@ Moved before f after =
 pub moved-same : (before : Reader) {f f′ : Read} {after after′ : Reader} →
     Moved before f after → Moved before f′ after′ → (f ≡ f′) × (after ≡ after′)
 moved-same before p q = (same (p .0) (q .0), reader-is (same (p .1) (q .1)) (same (p .2) (q .2)))
+
+-- What `write_event` says: its answer, and the bytes that the buffer then holds.
+abbrev pub Wrote : Event → List ℕ → Written → List ℕ → Type 0
+Wrote e old w new = (w ≡ writtenOf e old) × (new ≡ leftOf e old)
+
+-- What the `rev_write_` functions say of their event: the number of that answer, and the same bytes.
+abbrev pub Numbered : Event → List ℕ → ℕ → List ℕ → Type 0
+Numbered e old r new = (r ≡ numberOf (writtenOf e old)) × (new ≡ leftOf e old)
+
+-- For one event and one buffer there is one answer, one number, and one content of the buffer after it.
+pub wrote-same : (e : Event) (old : List ℕ) {w w′ : Written} {new new′ : List ℕ} → Wrote e old w new → Wrote e old w′ new′ → (w ≡ w′) × (new ≡ new′)
+wrote-same e old p q = (same (p .0) (q .0), same (p .1) (q .1))
+
+pub numbered-same : (e : Event) (old : List ℕ) {r r′ : ℕ} {new new′ : List ℕ} →
+    Numbered e old r new → Numbered e old r′ new′ → (r ≡ r′) × (new ≡ new′)
+numbered-same e old p q = (same (p .0) (q .0), same (p .1) (q .1))

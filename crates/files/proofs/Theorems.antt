@@ -1,30 +1,41 @@
 -- THE THEOREMS about files, each with its sentence, to be read alone. What they speak of is defined in specs/: Listing.antt and Dump.antt
 -- (`listingOf`, `dumpOf`: the bytes of the two texts), Fit.antt (`answers`, `leaves`: what a host is given), Shown.antt (the records that
--- a file shows). Contracts.antt ties them to the contracts of the functions; the theorems about the rows are in crates/rows.
+-- a file shows), Bodies.antt (`readAt`, `recordOf`: a record's event and an event's record), Write.antt (`writtenOf`, `leftOf`). Contracts.antt ties them to the contracts of the functions; the theorems about the rows are in crates/rows.
 -- Assumes nothing.
-use mathlib.Core.List.{List}
+use mathlib.Core.List.{List, _++_}
 use mathlib.Core.Logic.{_↔_, _⊎_}
 use mathlib.Core.Option.{some}
 use mathlib.Core.Path.{_≡_, refl, _∙_, ap}
-use mathlib.Core.Bool.{not}
-use Prim.Native.Nat.{ℕ, _≤_, _<_}
+use mathlib.Core.Bool.{true, not}
+use Prim.Native.Nat.{ℕ, _+_, _-_, _≤_, _<_}
 use native.Mathlib.Omega.{arith}
 use borrow.Author.Tests.{eqb-false}
-use lib.ListN.{length, getElem?}
+use lib.ListN.{length, take, drop, getElem?}
 use Rattle.rows.specs.History.{run}
 use Rattle.rows.specs.Step.{stepOf, unopenedCall}
+use Rattle.rows.specs.Valid.{eventOk}
 use Rattle.rows.specs.declared.Event.{Event}
 use Rattle.rows.proofs.Payers.{ten-for-the-unpaid, paid-on}
 use Rattle.rows.proofs.Stays.{nine-exactly, calls-stay, unopened-valid}
+use Rattle.files.specs.Bodies.{recordOf, readAt}
 use Rattle.files.specs.Dump.{dumpOf}
 use Rattle.files.specs.Fit.{answers}
 use Rattle.files.specs.Listing.{listingOf}
-use Rattle.files.specs.Shown.{Shown, shownOf}
+use Rattle.files.specs.Shown.{whole, contentsOf, eventsOf, Shown, shownOf}
+use Rattle.files.specs.Write.{writtenOf, leftOf, numberOf, bytesWritten}
+use Rattle.files.specs.declared.Read.{Read}
+use Rattle.files.specs.declared.Written.{Written}
+use Rattle.files.specs.declared.Written.the-variants.{Whole}
 use Rattle.files.proofs.Billed
 use Rattle.files.proofs.Billed.{Gets, Line}
+use Rattle.files.proofs.BothWays
+use Rattle.files.proofs.BothWays.{Typed, Writable, fileOf}
 use Rattle.files.proofs.Eight
 use Rattle.files.proofs.GivenBack.{numbers-hold}
-use Rattle.files.proofs.Same.{Fitted}
+use Rattle.files.proofs.HostWrites
+use Rattle.files.proofs.HostWrites.{Writes}
+use Rattle.files.proofs.Same.{Fitted, Wrote, Numbered}
+use Rattle.files.proofs.Stored.{AllBytes}
 
 -- ---- From the bytes to the bill
 
@@ -67,3 +78,53 @@ listing-eight = Eight.listing-eight
 
 pub dump-eight : (s out : List ℕ) → (answers s (dumpOf s) out ≡ 8) ↔ ((65536 < length s) ⊎ (length out < length (dumpOf s)))
 dump-eight = Eight.dump-eight
+
+-- ---- A record and its event (02 #102). `Typed`: the fields are numbers of their types, which every event of a program has; `AllBytes`: every
+-- byte of a file is below 256, likewise.
+
+-- What a host gets by the contract of each writer: 3 exactly where a field is out of range, 8 exactly where the fields are in range and the
+-- record is longer than the room, else 0; on a refusal every byte as it was; on 0 the record, which is read as the event, and the old bytes.
+pub host-writes : (e : Event) (old : List ℕ) (r : ℕ) (new : List ℕ) → Numbered e old r new → Writes e old r new
+host-writes = HostWrites.host-writes
+
+pub event-written : (e : Event) (old : List ℕ) (w : Written) (new : List ℕ) → Wrote e old w new →
+    Writes e old (numberOf w) new × (numberOf w ≡ 0 → bytesWritten w ≡ length (recordOf e))
+event-written = HostWrites.event-written
+
+-- What the writer writes, the reader gives back: at any place, whatever stands before and behind it.
+pub written-reads-back : (e : Event) → eventOk e ≡ true → Typed e → (p q : List ℕ) →
+    readAt (p ++ recordOf e ++ q) (length p) ≡ Read.Got e (length p + length (recordOf e))
+written-reads-back = BothWays.written-reads-back
+
+-- What the reader accepts with every field in range, the writer writes back byte for byte, wherever there is room for it ..
+pub read-then-written : (s : List ℕ) → AllBytes s → (at next : ℕ) (e : Event) → readAt s at ≡ Read.Got e next → eventOk e ≡ true →
+    (old : List ℕ) → next - at ≤ length old →
+    (writtenOf e old ≡ Whole (next - at)) × (leftOf e old ≡ take (next - at) (drop at s) ++ drop (next - at) old)
+read-then-written = HostWrites.read-then-written
+
+-- .. and, in range or not, what the reader accepts is the record of the event that it gives.
+pub read-writes-back : (s : List ℕ) → AllBytes s → (at next : ℕ) (e : Event) → readAt s at ≡ Read.Got e next →
+    (recordOf e ≡ take (next - at) (drop at s)) × (next ≡ at + length (recordOf e))
+read-writes-back = BothWays.read-writes-back
+
+-- Two events that write the same bytes are the same event, also where only one of the two records begins as the other does.
+pub same-bytes-same-event : (e f : Event) → eventOk e ≡ true → Typed e → eventOk f ≡ true → Typed f → (q r : List ℕ) →
+    recordOf e ++ q ≡ recordOf f ++ r → e ≡ f
+same-bytes-same-event = BothWays.same-bytes-same-event
+
+-- Every record has exactly one form: two places of two files that are read as the same event hold the same bytes.
+pub one-form : (s t : List ℕ) → AllBytes s → AllBytes t → (at next at′ next′ : ℕ) (e : Event) →
+    readAt s at ≡ Read.Got e next → readAt t at′ ≡ Read.Got e next′ → take (next - at) (drop at s) ≡ take (next′ - at′) (drop at′ t)
+one-form = BothWays.one-form
+
+-- A file of events, their records one after another, is read as just these ..
+pub file-of-events : (es : List Event) → Writable es → contentsOf (fileOf es) ≡ record { events = es; ending = whole }
+file-of-events = BothWays.file-of-events
+
+-- .. and every file that is read to its end is the file of its events.
+pub events-of-file : (s : List ℕ) → AllBytes s → contentsOf s .ending ≡ whole → fileOf (eventsOf s) ≡ s
+events-of-file = BothWays.events-of-file
+
+-- A record has 4 to 31 bytes.
+pub record-range : (e : Event) → (4 ≤ length (recordOf e)) × (length (recordOf e) ≤ 31)
+record-range = BothWays.record-range

@@ -8,8 +8,9 @@ use Rattle.rows.specs.declared.Component.the-variants.{Absent}
 use Rattle.rows.specs.declared.Event.the-variants.{Received, Time}
 use Rattle.text.specs.Choose.{ifLt, ifLe, ifEq, ifSo}
 use Rattle.text.specs.Text.{ascii, lastDigits, decimal, decimalBy, numbered}
-use Rattle.files.specs.Bodies.{openingAt, askAt, componentOf, numberIf, durationIf, messageAt, accessAt, eventAt, readAt}
-use Rattle.files.specs.Bytes.{le2At, le4At, le8At, numberAt}
+use Rattle.files.specs.Bodies.{openingAt, askAt, componentOf, numberIf, messageAt, accessAt, timeAt, eventAt, readAt}
+use Rattle.files.specs.Bytes.{leAt}
+use Rattle.files.specs.Fields.{sizeOf, valuesAt}
 use Rattle.files.specs.Dump.{stopText, placeText, placesText, dumpOf}
 use Rattle.files.specs.Frames.{lengthOf, frameOf, frameAt}
 use Rattle.files.specs.Lines.{standText, metersText, lineText, numberedLine, actionsText, recordText}
@@ -70,7 +71,7 @@ worked :
     ++ ascii "> STOP\n"
     ++ ascii "> REL 16\n"
     ++ ascii "END 7\n")
-unfolding case-l listingOf recordsOf restOf answerOf placesOf placesFrom placeAfter recordText actionsText releasedText sentText carriedText numberedLine lineText metersText standText valuesText partsText withDigits textIf withOperation operationText readAt eventAt accessAt messageAt durationIf numberIf componentOf askAt openingAt frameAt frameOf lengthOf numberAt le8At le4At le2At numbered decimal decimalBy lastDigits ifLt ifLe ifEq ifSo
+unfolding case-l listingOf recordsOf restOf answerOf placesOf placesFrom placeAfter recordText actionsText releasedText sentText carriedText numberedLine lineText metersText standText valuesText partsText withDigits textIf withOperation operationText readAt eventAt accessAt messageAt timeAt numberIf componentOf askAt openingAt frameAt frameOf lengthOf sizeOf valuesAt leAt numbered decimal decimalBy lastDigits ifLt ifLe ifEq ifSo
 worked = (refl, refl, refl, refl, refl, refl, refl, refl, refl, refl)
 
 -- a message with every field out of its range, and a byte more
@@ -97,5 +98,5 @@ dumped :
     ≡ ascii "RECORDS 2\n"
     ++ ascii "1 0 MESSAGE 9 200 COMPONENT 254 253 TRANSFER ACCEPTED AS-TRANSFER PARTIAL CALLING 0:1 CALLED 20:5 DURATION 4294967295 PART 128\n"
     ++ ascii "2 31 CUT-SHORT\n")
-unfolding case-l case-odd dumpOf placesText placeText stopText placesOf placesFrom placeAfter numberedLine codeWord digitsWord valueText countedWord numberWord roleWord commaText flagText flagsText flagsWord openingWords askedWord askWords nameWord operationWord withOperationWord unlessZero rejectWords unknownWords withNumber valuesWords messageWords toldWord accessWords partsText withDigits textIf operationText readAt eventAt accessAt messageAt durationIf numberIf componentOf askAt openingAt frameAt frameOf lengthOf numberAt le8At le4At le2At numbered decimal decimalBy lastDigits ifLt ifLe ifEq ifSo
+unfolding case-l case-odd dumpOf placesText placeText stopText placesOf placesFrom placeAfter numberedLine codeWord digitsWord valueText countedWord numberWord roleWord commaText flagText flagsText flagsWord openingWords askedWord askWords nameWord operationWord withOperationWord unlessZero rejectWords unknownWords withNumber valuesWords messageWords toldWord accessWords partsText withDigits textIf operationText readAt eventAt accessAt messageAt timeAt numberIf componentOf askAt openingAt frameAt frameOf lengthOf sizeOf valuesAt leAt numbered decimal decimalBy lastDigits ifLt ifLe ifEq ifSo
 dumped = (refl, refl)

@@ -1,6 +1,7 @@
 pub mod Bodies
 pub mod Bytes
 pub mod Dump
+pub mod Fields
 pub mod Fit
 pub mod Frames
 pub mod Lent
@@ -10,3 +11,4 @@ pub mod Messages
 pub mod Places
 pub mod Shown
 pub mod Words
+pub mod Write

@@ -1,17 +1,28 @@
 // The body of a record, and the event that it is. No field is judged here: the call answers 3.
 ghost use mathlib.Core.Path.{_≡_};
-ghost use Prim.Native.Nat.{_+_, _<_, _^_};
-ghost use Rattle.files.specs.Bodies.{openingAt, askAt, componentOf, numberIf, durationIf, messageAt, accessAt, eventAt, readAt};
+ghost use Prim.Native.Nat.{_+_, _*_, _<_, _^_};
+ghost use Rattle.files.specs.Bodies.{numberIf, openingAt, askAt, componentOf, messageAt, accessAt, timeAt, eventAt, readAt};
+ghost use Rattle.files.specs.Bytes.{leAt};
 use crate::Frame;
 use crate::Read;
 use crate::bytes::byte;
 use crate::bytes::le4;
-use crate::bytes::number_at;
+use crate::bytes::le8;
 use crate::frames::frame;
 use rows::Component;
 use rows::Event;
 use rows::Message;
 use rows::Number;
+
+// A number: the count of its digits, and 8 bytes of value.
+fn number_at(s: &[u8], i: usize) -> Number
+    requires { ⌜ i + 8 < 2 ^ 64 ⌝ }
+    ensures { λ r. ⌜ r ≡ numberIf (now (s .entry)) i 1 ⌝ }
+{
+    let count = byte(s, i);
+    let value = le8(s, i + 1);
+    Number { count, value }
+}
 
 fn opening_at(s: &[u8], b: usize) -> Event
     requires { ⌜ b + 64 < 2 ^ 64 ⌝ }
@@ -32,7 +43,7 @@ fn ask_at(s: &[u8], b: usize) -> Event
     Event::Ask(item, called)
 }
 
-fn component_of(code: u8, n: u8) -> Component
+pub(crate) fn component_of(code: u8, n: u8) -> Component
     ensures { λ r. ⌜ r ≡ componentOf code n ⌝ }
 {
     if code == 0 {
@@ -55,7 +66,7 @@ fn component_of(code: u8, n: u8) -> Component
 
 // A number where its part is present, else absent.
 fn number_if(s: &[u8], i: usize, present: u8) -> Number
-    requires { ⌜ i + 8 < 2 ^ 64 ⌝ }
+    requires { ⌜ (i + 8 < 2 ^ 64) × (present < 2) ⌝ }
     ensures { λ r. ⌜ r ≡ numberIf (now (s .entry)) i present ⌝ }
 {
     if present == 1 {
@@ -65,8 +76,8 @@ fn number_if(s: &[u8], i: usize, present: u8) -> Number
 }
 
 fn duration_if(s: &[u8], i: usize, present: u8) -> u32
-    requires { ⌜ i + 3 < 2 ^ 64 ⌝ }
-    ensures { λ r. ⌜ r ≡ durationIf (now (s .entry)) i present ⌝ }
+    requires { ⌜ (i + 3 < 2 ^ 64) × (present < 2) ⌝ }
+    ensures { λ r. ⌜ r ≡ leAt (4 * present) (now (s .entry)) i ⌝ }
 {
     if present == 1 {
         return le4(s, i);
@@ -111,6 +122,14 @@ fn access_at(s: &[u8], b: usize) -> Event
     Event::FromAccess(item, error)
 }
 
+fn time_at(s: &[u8], b: usize) -> Event
+    requires { ⌜ b + 64 < 2 ^ 64 ⌝ }
+    ensures { λ r. ⌜ r ≡ timeAt (now (s .entry)) b ⌝ }
+{
+    let seconds = le4(s, b);
+    Event::Time(seconds)
+}
+
 // The event of a body. A frame lets no kind through but 1 to 6.
 fn event_at(s: &[u8], b: usize, kind: u32) -> Event
     requires { ⌜ b + 64 < 2 ^ 64 ⌝ }
@@ -131,7 +150,7 @@ fn event_at(s: &[u8], b: usize, kind: u32) -> Event
     if kind == 5 {
         return Event::Expiry;
     }
-    Event::Time(le4(s, b))
+    time_at(s, b)
 }
 
 // What stands at a place of a file.

@@ -2,8 +2,7 @@
 ghost use mathlib.Core.Path.{_≡_};
 ghost use Prim.Native.Nat.{_+_, _<_, _^_};
 ghost use lib.ListN.{length};
-ghost use Rattle.files.specs.Bytes.{byteAt, le2At, le4At, le8At, numberAt};
-use rows::Number;
+ghost use Rattle.files.specs.Bytes.{byteAt, leAt};
 
 pub(crate) fn byte(s: &[u8], i: usize) -> u8
     ensures { λ r. ⌜ r ≡ byteAt (now (s .entry)) i ⌝ }
@@ -29,28 +28,28 @@ fn wider(x: u32) -> u64
 // Bytes that are there: no test of each, so that a field is read at once.
 fn two(s: &[u8], i: usize) -> u32
     requires { ⌜ i + 1 < length (now s) ⌝ }
-    ensures { λ r. ⌜ (r ≡ le2At (now (s .entry)) i) × (r < 65536) ⌝ }
+    ensures { λ r. ⌜ (r ≡ leAt 2 (now (s .entry)) i) × (r < 65536) ⌝ }
 {
     wide(s[i]) + 256 * wide(s[i + 1])
 }
 
 fn four(s: &[u8], i: usize) -> u32
     requires { ⌜ i + 3 < length (now s) ⌝ }
-    ensures { λ r. ⌜ r ≡ le4At (now (s .entry)) i ⌝ }
+    ensures { λ r. ⌜ r ≡ leAt 4 (now (s .entry)) i ⌝ }
 {
     two(s, i) + 65536 * two(s, i + 2)
 }
 
 fn eight(s: &[u8], i: usize) -> u64
     requires { ⌜ i + 7 < length (now s) ⌝ }
-    ensures { λ r. ⌜ r ≡ le8At (now (s .entry)) i ⌝ }
+    ensures { λ r. ⌜ r ≡ leAt 8 (now (s .entry)) i ⌝ }
 {
     wider(four(s, i)) + 4294967296 * wider(four(s, i + 4))
 }
 
 pub(crate) fn le2(s: &[u8], i: usize) -> u32
     requires { ⌜ i + 1 < 2 ^ 64 ⌝ }
-    ensures { λ r. ⌜ (r ≡ le2At (now (s .entry)) i) × (r < 65536) ⌝ }
+    ensures { λ r. ⌜ (r ≡ leAt 2 (now (s .entry)) i) × (r < 65536) ⌝ }
 {
     if i + 1 < s.len() {
         return two(s, i);
@@ -60,7 +59,7 @@ pub(crate) fn le2(s: &[u8], i: usize) -> u32
 
 pub(crate) fn le4(s: &[u8], i: usize) -> u32
     requires { ⌜ i + 3 < 2 ^ 64 ⌝ }
-    ensures { λ r. ⌜ r ≡ le4At (now (s .entry)) i ⌝ }
+    ensures { λ r. ⌜ r ≡ leAt 4 (now (s .entry)) i ⌝ }
 {
     if i + 3 < s.len() {
         return four(s, i);
@@ -68,22 +67,12 @@ pub(crate) fn le4(s: &[u8], i: usize) -> u32
     le2(s, i) + 65536 * le2(s, i + 2)
 }
 
-fn le8(s: &[u8], i: usize) -> u64
+pub(crate) fn le8(s: &[u8], i: usize) -> u64
     requires { ⌜ i + 7 < 2 ^ 64 ⌝ }
-    ensures { λ r. ⌜ r ≡ le8At (now (s .entry)) i ⌝ }
+    ensures { λ r. ⌜ r ≡ leAt 8 (now (s .entry)) i ⌝ }
 {
     if i + 7 < s.len() {
         return eight(s, i);
     }
     wider(le4(s, i)) + 4294967296 * wider(le4(s, i + 4))
-}
-
-// A number: the count of its digits, and 8 bytes of value.
-pub(crate) fn number_at(s: &[u8], i: usize) -> Number
-    requires { ⌜ i + 8 < 2 ^ 64 ⌝ }
-    ensures { λ r. ⌜ r ≡ numberAt (now (s .entry)) i ⌝ }
-{
-    let count = byte(s, i);
-    let value = le8(s, i + 1);
-    Number { count, value }
 }

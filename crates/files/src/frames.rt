@@ -15,7 +15,7 @@ pub const BAD_LENGTH: u8 = 6;
 const UNKNOWN_KIND: u8 = 7;
 
 // The length that a kind has, 0 for an unknown kind. A message's follows its parts 16, 32 and 64 alone.
-fn length_of(kind: u32, parts: u32) -> u32
+pub(crate) fn length_of(kind: u32, parts: u32) -> u32
     ensures { λ r. ⌜ r ≡ lengthOf kind parts ⌝ }
 {
     if kind == 1 {

@@ -14,6 +14,7 @@ mod listing;
 mod messages;
 mod places;
 mod words;
+mod write;
 
 pub use bodies::read_at;
 pub use dump::rev_dump;
@@ -25,6 +26,13 @@ pub use listing::rev_listing;
 pub use places::count_records;
 use rows::Event;
 pub use words::says;
+pub use write::rev_write_access;
+pub use write::rev_write_expiry;
+pub use write::rev_write_message;
+pub use write::rev_write_opening;
+pub use write::rev_write_request;
+pub use write::rev_write_time;
+pub use write::write_event;
 
 // A record's frame: the number at which reading stops; or its kind and the place after it.
 pub enum Frame {
@@ -44,6 +52,13 @@ pub enum Read {
 pub struct Reader<'a> {
     pub src: &'a [u8],
     pub at: usize,
+}
+
+// What the writer of events answers: it wrote a whole record, of so many bytes; or why it wrote nothing.
+pub enum Written {
+    Whole(usize),
+    BadField,
+    NoRoom,
 }
 
 // What one reading gives: what was found, and the place where that leaves the reader.

@@ -198,6 +198,10 @@ messageOk m =
 abbrev pub accessOk : ℕ → ℕ → Bool
 accessOk a n = (leb 1 a && leb a 5) && (eqb a 2 || eqb n 0)
 
+-- kind 6: 0 to 86,400 seconds, a day
+abbrev pub timeOk : ℕ → Bool
+timeOk s = leb s day
+
 -- an event whose fields are in range: else 3
 abbrev pub eventOk : Event → Bool
 eventOk (Opening r f n) = openingOk r f n
@@ -205,4 +209,4 @@ eventOk (Ask q n) = askOk q n
 eventOk (Received m) = messageOk m
 eventOk (FromAccess a n) = accessOk a n
 eventOk Expiry = true
-eventOk (Time s) = leb s day
+eventOk (Time s) = timeOk s

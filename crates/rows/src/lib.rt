@@ -16,7 +16,12 @@ mod valid;
 use meters::Change;
 use meters::Meters;
 pub use numbers::APPLIED;
+pub use valid::access_ok;
+pub use valid::ask_ok;
 pub use valid::in_range;
+pub use valid::message_ok;
+pub use valid::opening_ok;
+pub use valid::time_ok;
 
 pub enum Role {
     Originating,

@@ -3,7 +3,7 @@ ghost use mathlib.Core.Path.{_≡_};
 ghost use Rattle.rows.specs.Valid.{idleOnly, originatingSetup, originatingAnswered, destinationSetup, destinationAnswered, placedOf};
 ghost use Rattle.rows.specs.Valid.{tenTo, inRange, unmetered, payerNobody, payerThere, noCaller, meteredOf, payingThere, payingOf};
 ghost use Rattle.rows.specs.Valid.{numbersHeld, validOf, numberThere, numberAbsent, numberIf, openingOk, askOk, componentOk, partsOk};
-ghost use Rattle.rows.specs.Valid.{messageOk, accessOk, eventOk};
+ghost use Rattle.rows.specs.Valid.{messageOk, accessOk, timeOk, eventOk};
 use crate::Call;
 use crate::Component;
 use crate::Event;
@@ -280,14 +280,14 @@ fn number_if(there: bool, n: Number) -> bool
     (there & a) | (!there & b)
 }
 
-fn opening_ok(role: u8, flags: u8, own: Number) -> bool
+pub fn opening_ok(role: u8, flags: u8, own: Number) -> bool
     ensures { λ out. ⌜ out ≡ openingOk role flags own ⌝ }
 {
     let a = number_there(own);
     (role <= 1) & ((flags <= 31) & a)
 }
 
-fn ask_ok(q: u8, n: Number) -> bool
+pub fn ask_ok(q: u8, n: Number) -> bool
     ensures { λ out. ⌜ out ≡ askOk q n ⌝ }
 {
     let a = number_if(q <= 1, n);
@@ -314,7 +314,7 @@ fn parts_ok(parts: u8) -> bool
     (parts <= 127) & (((parts / 2) % 2 == 1) | !((parts / 4) % 2 == 1))
 }
 
-fn message_ok(m: Message) -> bool
+pub fn message_ok(m: Message) -> bool
     ensures { λ out. ⌜ out ≡ messageOk m ⌝ }
 {
     let component = m.component;
@@ -328,10 +328,16 @@ fn message_ok(m: Message) -> bool
     ((IAM <= m.kind) & (m.kind <= FAC)) & ((m.cause <= 127) & (a & (b & (d & (f & g)))))
 }
 
-fn access_ok(a: u8, n: u8) -> bool
+pub fn access_ok(a: u8, n: u8) -> bool
     ensures { λ out. ⌜ out ≡ accessOk a n ⌝ }
 {
     ((1 <= a) & (a <= 5)) & ((a == 2) | (n == 0))
+}
+
+pub fn time_ok(seconds: u32) -> bool
+    ensures { λ out. ⌜ out ≡ timeOk seconds ⌝ }
+{
+    seconds <= DAY
 }
 
 pub(crate) fn event_ok(e: Event) -> bool
@@ -343,6 +349,6 @@ pub(crate) fn event_ok(e: Event) -> bool
         Event::Received(m) => message_ok(m),
         Event::FromAccess(a, n) => access_ok(a, n),
         Event::Expiry => true,
-        Event::Time(s) => s <= DAY,
+        Event::Time(seconds) => time_ok(seconds),
     }
 }

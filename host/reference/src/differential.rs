@@ -8,9 +8,9 @@
 use crate::coverage::Coverage;
 use crate::listing::{listing, ROOM};
 use crate::model::events;
+use crate::server::{end_progress, progress, Server};
 use crate::{generate, Trouble};
-use std::io::{BufReader, IsTerminal, Read, Write};
-use std::process::{Command, Stdio};
+use std::io::{Read, Write};
 
 const REFUSED: u32 = u32::MAX;
 
@@ -19,41 +19,28 @@ const PRINTED: usize = 500;
 
 /// Compares `count` files. The first that differs is written to `keep`; gives whether there was none.
 pub fn compare(count: u64, seed: u64, keep: &str, command: &[String]) -> Result<bool, Trouble> {
-    let mut server = Command::new(&command[0])
-        .args(&command[1..])
-        .stdin(Stdio::piped())
-        .stdout(Stdio::piped())
-        .spawn()
-        .map_err(|error| Trouble(format!("{} can't be started: {error}", command[0])))?;
-    let mut input = server.stdin.take().expect("a pipe");
-    let mut output = BufReader::new(server.stdout.take().expect("a pipe"));
+    let mut server = Server::start(command)?;
     let mut coverage = Coverage::new();
     for ordinal in 0..count {
         let file = generate::file(seed, ordinal);
-        let lost = |error| Trouble(format!("file {ordinal} of seed {seed}: {} has no answer: {error}", command[0]));
-        send(&mut input, &file).map_err(lost)?;
         let expected = listing(&file, ROOM);
-        let got = receive(&mut output).map_err(lost)?;
+        let got = match send(&mut server.input, &file).and_then(|()| receive(&mut server.output)) {
+            Ok(got) => got,
+            Err(error) => return Err(server.lost(&format!("file {ordinal} of seed {seed}"), error)),
+        };
         if expected.as_ref().map(|listing| &listing.text) != got.as_ref() {
             std::fs::write(keep, &file)?;
             end_progress();
             println!("file {ordinal} of seed {seed} differs; it is kept in {keep}");
             print!("{}", dump(&file));
             print!("{}", first_difference(expected.map(|listing| listing.text).as_deref(), got.as_deref()));
-            server.kill()?;
-            server.wait()?;
+            server.stop()?;
             return Ok(false);
         }
         coverage.count(expected.as_ref());
-        progress(ordinal + 1, count);
+        progress(ordinal + 1, count, "files");
     }
-    drop(input);
-    let mut more = Vec::new();
-    output.read_to_end(&mut more)?;
-    let status = server.wait()?;
-    if !more.is_empty() || !status.success() {
-        return Err(Trouble(format!("{} ends with {status} and {} bytes of no file", command[0], more.len())));
-    }
+    server.end()?;
     end_progress();
     print!("{}", coverage.report());
     println!("{count} files, 0 differences");
@@ -100,20 +87,6 @@ fn receive(input: &mut impl Read) -> std::io::Result<Option<Vec<u8>>> {
             }
             Ok(Some(bytes))
         }
-    }
-}
-
-/// A line that is written over, on a terminal only.
-fn progress(done: u64, count: u64) {
-    let mut terminal = std::io::stderr();
-    if (done.is_multiple_of(1000) || done == count) && terminal.is_terminal() {
-        let _ = write!(terminal, "\r{done} of {count} files");
-    }
-}
-
-fn end_progress() {
-    if std::io::stderr().is_terminal() {
-        eprintln!();
     }
 }
 

@@ -2,6 +2,7 @@
 //! matters in the state the call is in. The rest are damaged, long, empty or noise.
 
 mod fields;
+pub mod lent;
 mod random;
 mod wanted;
 

@@ -5,7 +5,10 @@ mod differential;
 mod generate;
 mod listing;
 mod model;
+mod server;
 mod undump;
+mod write;
+mod writes;
 
 use std::io::{Read, Write};
 use std::process::ExitCode;
@@ -15,6 +18,8 @@ const USAGE: &str = "usage:
   reference serve                                listings of many files (see differential)
   reference differential --count N --seed S [--keep PATH] -- COMMAND ARGS..
                                                  compares COMMAND's listings of N files with the model's
+  reference writes --count N --seed S [--keep PATH] -- COMMAND ARGS..
+                                                 compares what COMMAND writes of N events with the model's
   reference coverage --count N --seed S          how often N files reach each row and number
   reference undump FILE < DUMP                   whether a dump is FILE's: it is read back
   reference generate --count N --seed S --out DIR
@@ -57,14 +62,14 @@ fn run(words: &[String]) -> Result<bool, Trouble> {
             Ok(true)
         }
         "differential" => {
-            let end = rest.iter().position(|word| word == "--").ok_or(Trouble(USAGE.into()))?;
-            let options = Options::read(&rest[..end], &["--count", "--seed", "--keep"])?;
-            let command = &rest[end + 1..];
-            if command.is_empty() {
-                return Err(Trouble(USAGE.into()));
-            }
+            let (options, command) = comparison(rest)?;
             let keep = options.text("--keep").unwrap_or("difference.rev");
             differential::compare(options.number("--count")?, options.number("--seed")?, keep, command)
+        }
+        "writes" => {
+            let (options, command) = comparison(rest)?;
+            let keep = options.text("--keep").unwrap_or("difference.txt");
+            writes::compare(options.number("--count")?, options.number("--seed")?, keep, command)
         }
         "coverage" => {
             let options = Options::read(rest, &["--count", "--seed"])?;
@@ -96,6 +101,16 @@ fn run(words: &[String]) -> Result<bool, Trouble> {
         }
         _ => Err(Trouble(USAGE.into())),
     }
+}
+
+/// The options and the command of a comparison.
+fn comparison(words: &[String]) -> Result<(Options<'_>, &[String]), Trouble> {
+    let end = words.iter().position(|word| word == "--").ok_or(Trouble(USAGE.into()))?;
+    let (options, command) = (Options::read(&words[..end], &["--count", "--seed", "--keep"])?, &words[end + 1..]);
+    if command.is_empty() {
+        return Err(Trouble(USAGE.into()));
+    }
+    Ok((options, command))
 }
 
 /// The listing program: standard input's listing, or `REFUSED 8`.
@@ -147,9 +162,17 @@ mod tests {
         let options = Options::read(&good, &["--count", "--seed"]).ok().expect("known options");
         assert_eq!(options.number("--count").ok(), Some(13));
         assert_eq!(options.number("--seed").ok(), Some(3));
-        for bad in
-            ["", "listings", "listing x", "coverage --count 3", "coverage --count x --seed 1", "differential --count 1"]
-        {
+        for bad in [
+            "",
+            "listings",
+            "listing x",
+            "coverage --count 3",
+            "coverage --count x --seed 1",
+            "differential --count 1",
+            "differential --count 1 --seed 1 --",
+            "writes --count 1 --seed 1",
+            "writes --count 1 -- true",
+        ] {
             assert!(run(&words(bad)).is_err(), "{bad}");
         }
     }

@@ -52,6 +52,11 @@ pub fn compare(dump: &str, file: &[u8]) -> Result<(), String> {
     Ok(())
 }
 
+/// The bytes of the record that a dump of one record alone says.
+pub fn only_record(dump: &str) -> Option<Vec<u8>> {
+    Words::of(dump.strip_prefix("RECORDS 1\n1 0 ")?.strip_suffix('\n')?).record()
+}
+
 /// The words of a line that are not read yet.
 struct Words<'a>(std::iter::Peekable<std::str::Split<'a, char>>);
 
@@ -220,6 +225,16 @@ mod tests {
         assert_eq!(words("MESSAGE 8 1 REJECT 7 PARTIAL PART 128"), Some(vec![7, 0, 3, 0, 8, 1, 4, 7, 136]));
         assert_eq!(words("FAC 0 DURATION 40"), Some(vec![11, 0, 3, 0, 5, 0, 0, 0, 64, 40, 0, 0, 0]));
         assert_eq!(words("ACCESS CLEAR 0"), Some(vec![4, 0, 4, 0, 4, 0]));
+    }
+
+    #[test]
+    fn a_record_alone() {
+        assert_eq!(only_record("RECORDS 1\n1 0 EXPIRY\n"), Some(vec![2, 0, 5, 0]));
+        for dump in
+            ["", "REFUSED 8\n", "RECORDS 0\n", "RECORDS 1\n1 0 CUT-SHORT\n", "RECORDS 2\n1 0 EXPIRY\n2 4 EXPIRY\n"]
+        {
+            assert_eq!(only_record(dump), None, "{dump}");
+        }
     }
 
     #[test]

@@ -1,10 +1,10 @@
 use borrow.Author.Needs.{needs}
-use Rattle.files.specs.Bytes.{le2At}
+use Rattle.files.specs.Bytes.{leAt}
 use Rattle.files.proofs.bytes.le2.Statement.{statement}
 use Rattle.files.proofs.bytes.le2.Tie as tie
 
 pub le2-spec : {M : Type 1} → statement M
-unfolding le2At
+unfolding leAt
 le2-spec =
     tie.close
     (tie.spec

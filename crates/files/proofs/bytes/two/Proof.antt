@@ -1,10 +1,10 @@
 use borrow.Author.Needs.{needs}
-use Rattle.files.specs.Bytes.{le2At}
+use Rattle.files.specs.Bytes.{leAt}
 use Rattle.files.proofs.bytes.two.Statement.{statement}
 use Rattle.files.proofs.bytes.two.Tie as tie
 
 pub two-spec : {M : Type 1} → statement M
-unfolding le2At
+unfolding leAt
 two-spec =
     tie.close
     (tie.spec

@@ -8,7 +8,8 @@ event-ok-spec =
     (tie.spec
     (λ c. search needs) (λ c. λ κs. search needs) (λ c. search needs) (λ c. λ κs. search needs) (λ c. search needs)
     (λ c. λ κs. search needs) (λ c. search needs) (λ c. λ κs. search needs) (λ c. search needs) (λ c. search needs)
+    (λ c. λ κs. search needs)
     (λ c. simp (c .opening-ok .ensures, c .before .before .e .given .1))
     (λ c. simp (c .ask-ok .ensures, c .before .before .e2 .given .1))
     (λ c. simp (c .message-ok .ensures, c .before .before .e3 .given .1))
-    (λ c. simp (c .access-ok .ensures, c .before .before .e4 .given .1)) (λ c. search needs) (λ c. simp (c .before .e5 .given .1)))
+    (λ c. simp (c .access-ok .ensures, c .before .before .e4 .given .1)) (λ c. search needs) (λ c. simp (c .time-ok .ensures, c .before .before .e5 .given .1)))

@@ -1,0 +1,133 @@
+-- Worked records, one kind after another: the bytes that the writer has for an event, the event that the reader has for the bytes, and each
+-- refusal with the buffer that it leaves. The definitions compute.
+-- Assumes nothing.
+use mathlib.Core.List.{List, [], _∷_}
+use mathlib.Core.Path.{_≡_, refl}
+use Prim.Native.Nat.{ℕ}
+use Rattle.text.specs.Choose.{ifLt, ifLe, ifEq, ifSo}
+use Rattle.rows.specs.Read.{absent}
+use Rattle.rows.specs.declared.Component.{Component}
+use Rattle.rows.specs.declared.Component.the-variants.{Absent, Invoke, Result, Error, Reject, Unknown}
+use Rattle.rows.specs.declared.Event.{Event}
+use Rattle.rows.specs.declared.Event.the-variants.{Opening, Ask, Received, FromAccess, Expiry, Time}
+use Rattle.rows.specs.declared.Number.{Number}
+use Rattle.files.specs.Bodies.{openingAt, askAt, componentOf, numberIf, messageAt, accessAt, timeAt, eventAt, readAt, headOf, recordOf}
+use Rattle.files.specs.Bytes.{leAt, leOf}
+use Rattle.files.specs.Fields.{sizeOf, valuesAt, bytesOf}
+use Rattle.files.specs.Frames.{lengthOf, frameOf, frameAt}
+use Rattle.files.specs.Write.{writtenOf, leftOf}
+use Rattle.files.specs.declared.Read.{Read}
+use Rattle.files.specs.declared.Written.the-variants.{Whole, BadField, NoRoom}
+
+own : Number
+own = record { count = 7; value = 5550100 }
+
+called : Number
+called = record { count = 7; value = 5550123 }
+
+message : ℕ → ℕ → Component → ℕ → Number → Number → ℕ → Event
+message kind cause component parts calling dialled duration =
+    Received (record { kind = kind; cause = cause; component = component; parts = parts; calling = calling; called = dialled; duration = duration })
+
+-- ---- what is written
+
+opening-bytes : recordOf (Opening 0 8 own) ≡ 13 ∷ 0 ∷ 1 ∷ 0 ∷ 0 ∷ 8 ∷ 7 ∷ 20 ∷ 176 ∷ 84 ∷ 0 ∷ 0 ∷ 0 ∷ 0 ∷ 0 ∷ []
+unfolding own recordOf headOf bytesOf sizeOf leOf
+opening-bytes = refl
+
+request-bytes : recordOf (Ask 1 called) ≡ 12 ∷ 0 ∷ 2 ∷ 0 ∷ 1 ∷ 7 ∷ 43 ∷ 176 ∷ 84 ∷ 0 ∷ 0 ∷ 0 ∷ 0 ∷ 0 ∷ []
+unfolding called recordOf headOf bytesOf sizeOf leOf
+request-bytes = refl
+
+-- an ANM with the result of SETUP has no parts; a FAC with all of them has the longest record
+answer-bytes : recordOf (message 2 0 (Result 1) 0 absent absent 0) ≡ 7 ∷ 0 ∷ 3 ∷ 0 ∷ 2 ∷ 0 ∷ 2 ∷ 1 ∷ 0 ∷ []
+unfolding message recordOf headOf bytesOf sizeOf leOf
+answer-bytes = refl
+
+message-bytes : recordOf (message 5 0 (Invoke 3) 127 own called 40)
+    ≡ 29 ∷ 0 ∷ 3 ∷ 0 ∷ 5 ∷ 0 ∷ 1 ∷ 3 ∷ 127 ∷ 7 ∷ 20 ∷ 176 ∷ 84 ∷ 0 ∷ 0 ∷ 0 ∷ 0 ∷ 0 ∷ 7 ∷ 43 ∷ 176 ∷ 84 ∷ 0 ∷ 0 ∷ 0 ∷ 0 ∷ 0 ∷ 40 ∷ 0 ∷ 0 ∷ 0 ∷ []
+unfolding message own called recordOf headOf bytesOf sizeOf leOf
+message-bytes = refl
+
+-- the called number alone stands directly behind the parts
+called-bytes : recordOf (message 1 0 (Absent 0) 32 absent called 0)
+    ≡ 16 ∷ 0 ∷ 3 ∷ 0 ∷ 1 ∷ 0 ∷ 0 ∷ 0 ∷ 32 ∷ 7 ∷ 43 ∷ 176 ∷ 84 ∷ 0 ∷ 0 ∷ 0 ∷ 0 ∷ 0 ∷ []
+unfolding message called recordOf headOf bytesOf sizeOf leOf
+called-bytes = refl
+
+access-bytes : recordOf (FromAccess 2 12) ≡ 4 ∷ 0 ∷ 4 ∷ 0 ∷ 2 ∷ 12 ∷ []
+unfolding recordOf headOf bytesOf sizeOf leOf
+access-bytes = refl
+
+expiry-bytes : recordOf Expiry ≡ 2 ∷ 0 ∷ 5 ∷ 0 ∷ []
+unfolding recordOf headOf bytesOf sizeOf leOf
+expiry-bytes = refl
+
+-- 01: "Sixty seconds are `06 00 06 00 3C 00 00 00`"
+time-bytes : recordOf (Time 60) ≡ 6 ∷ 0 ∷ 6 ∷ 0 ∷ 60 ∷ 0 ∷ 0 ∷ 0 ∷ []
+unfolding recordOf headOf bytesOf sizeOf leOf
+time-bytes = refl
+
+-- ---- what is read of it, at a place with bytes around it
+
+opening-read : readAt (99 ∷ 13 ∷ 0 ∷ 1 ∷ 0 ∷ 0 ∷ 8 ∷ 7 ∷ 20 ∷ 176 ∷ 84 ∷ 0 ∷ 0 ∷ 0 ∷ 0 ∷ 0 ∷ 99 ∷ []) 1 ≡ Read.Got (Opening 0 8 own) 16
+unfolding own readAt frameAt frameOf lengthOf eventAt openingAt numberIf sizeOf valuesAt leAt ifLt ifLe ifEq ifSo
+opening-read = refl
+
+request-read : readAt (99 ∷ 12 ∷ 0 ∷ 2 ∷ 0 ∷ 1 ∷ 7 ∷ 43 ∷ 176 ∷ 84 ∷ 0 ∷ 0 ∷ 0 ∷ 0 ∷ 0 ∷ 99 ∷ []) 1 ≡ Read.Got (Ask 1 called) 15
+unfolding called readAt frameAt frameOf lengthOf eventAt askAt numberIf sizeOf valuesAt leAt ifLt ifLe ifEq ifSo
+request-read = refl
+
+message-read : readAt
+    (99 ∷ 29 ∷ 0 ∷ 3 ∷ 0 ∷ 5 ∷ 0 ∷ 1 ∷ 3 ∷ 127 ∷ 7 ∷ 20 ∷ 176 ∷ 84 ∷ 0 ∷ 0 ∷ 0 ∷ 0 ∷ 0 ∷ 7 ∷ 43 ∷ 176 ∷ 84 ∷ 0 ∷ 0 ∷ 0 ∷ 0 ∷ 0 ∷ 40 ∷ 0 ∷ 0 ∷ 0 ∷ 99 ∷ []) 1
+    ≡ Read.Got (message 5 0 (Invoke 3) 127 own called 40) 32
+unfolding message own called readAt frameAt frameOf lengthOf eventAt messageAt componentOf numberIf sizeOf valuesAt leAt ifLt ifLe ifEq ifSo
+message-read = refl
+
+access-read : readAt (99 ∷ 4 ∷ 0 ∷ 4 ∷ 0 ∷ 2 ∷ 12 ∷ 99 ∷ []) 1 ≡ Read.Got (FromAccess 2 12) 7
+unfolding readAt frameAt frameOf lengthOf eventAt accessAt sizeOf valuesAt leAt ifLt ifLe ifEq ifSo
+access-read = refl
+
+expiry-read : readAt (99 ∷ 2 ∷ 0 ∷ 5 ∷ 0 ∷ 99 ∷ []) 1 ≡ Read.Got Expiry 5
+unfolding readAt frameAt frameOf lengthOf eventAt sizeOf valuesAt leAt ifLt ifLe ifEq ifSo
+expiry-read = refl
+
+time-read : readAt (99 ∷ 6 ∷ 0 ∷ 6 ∷ 0 ∷ 60 ∷ 0 ∷ 0 ∷ 0 ∷ 99 ∷ []) 1 ≡ Read.Got (Time 60) 9
+unfolding readAt frameAt frameOf lengthOf eventAt timeAt sizeOf valuesAt leAt ifLt ifLe ifEq ifSo
+time-read = refl
+
+-- ---- what is answered, and what the buffer then holds
+
+-- just room enough; a byte more, which stays; a byte less: 8, and nothing is written
+expiry-written : (writtenOf Expiry (9 ∷ 9 ∷ 9 ∷ 9 ∷ []) ≡ Whole 4)
+    × (leftOf Expiry (9 ∷ 9 ∷ 9 ∷ 9 ∷ []) ≡ 2 ∷ 0 ∷ 5 ∷ 0 ∷ [])
+    × (leftOf Expiry (9 ∷ 9 ∷ 9 ∷ 9 ∷ 9 ∷ []) ≡ 2 ∷ 0 ∷ 5 ∷ 0 ∷ 9 ∷ [])
+    × (writtenOf Expiry (9 ∷ 9 ∷ 9 ∷ []) ≡ NoRoom)
+    × (leftOf Expiry (9 ∷ 9 ∷ 9 ∷ []) ≡ 9 ∷ 9 ∷ 9 ∷ [])
+unfolding writtenOf leftOf recordOf headOf bytesOf sizeOf leOf ifLt ifSo
+expiry-written = (refl, refl, refl, refl, refl)
+
+-- a day and a second is 3, in room enough and in none: 3 comes before 8
+time-refused : (writtenOf (Time 86401) (9 ∷ 9 ∷ 9 ∷ 9 ∷ 9 ∷ 9 ∷ 9 ∷ 9 ∷ []) ≡ BadField)
+    × (leftOf (Time 86401) (9 ∷ 9 ∷ 9 ∷ 9 ∷ 9 ∷ 9 ∷ 9 ∷ 9 ∷ []) ≡ 9 ∷ 9 ∷ 9 ∷ 9 ∷ 9 ∷ 9 ∷ 9 ∷ 9 ∷ [])
+    × (writtenOf (Time 86401) [] ≡ BadField)
+    × (writtenOf (Time 86400) [] ≡ NoRoom)
+unfolding writtenOf leftOf recordOf headOf bytesOf sizeOf leOf ifLt ifSo
+time-refused = (refl, refl, refl, refl)
+
+-- out of range: a number or a Duration that the parts do not name; part 4 without part 2; an unknown component; an error with no place
+-- for one; an own number of no digits
+fields-refused : (writtenOf (message 5 0 (Absent 0) 0 own absent 0) [] ≡ BadField)
+    × (writtenOf (message 5 0 (Absent 0) 16 own absent 1) [] ≡ BadField)
+    × (writtenOf (message 5 0 (Absent 0) 4 absent absent 0) [] ≡ BadField)
+    × (writtenOf (message 5 0 (Unknown 5 0) 0 absent absent 0) [] ≡ BadField)
+    × (writtenOf (message 5 0 (Reject 1) 0 absent absent 0) [] ≡ BadField)
+    × (writtenOf (FromAccess 1 12) [] ≡ BadField)
+    × (writtenOf (Opening 0 0 absent) [] ≡ BadField)
+unfolding message own writtenOf ifSo
+fields-refused = (refl, refl, refl, refl, refl, refl, refl)
+
+-- in range, whatever a row would say: any Duration of 4 bytes, any error
+fields-in-range : (writtenOf (message 5 0 (Error 255) 64 absent absent 4294967295) [] ≡ NoRoom) × (writtenOf (FromAccess 2 255) [] ≡ NoRoom)
+unfolding message writtenOf recordOf headOf bytesOf sizeOf leOf ifLt ifSo
+fields-in-range = (refl, refl)

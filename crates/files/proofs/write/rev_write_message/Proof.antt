@@ -1,0 +1,13 @@
+use borrow.Author.Needs.{needs}
+use Rattle.files.proofs.Writes.{message-made}
+use Rattle.files.proofs.write.rev_write_message.Statement.{statement}
+use Rattle.files.proofs.write.rev_write_message.Tie as tie
+
+returns : tie.Need-returns
+returns c =
+    let d = c .before .before .before in
+    message-made _ _ _ _ _ _ _ _ _ _ _ _ _ (d .before .before .component-of .ensures) (c .number-of .ensures) (d .write-message .ensures)
+
+pub rev-write-message-spec : {M : Type 1} → statement M
+rev-write-message-spec =
+    tie.close (tie.spec (λ c. λ κs. search needs) (λ c. λ κs. search needs) (λ c. λ κs. search needs) (λ c. search needs) returns)

@@ -1,0 +1,19 @@
+use borrow.Author.Needs.{needs}
+use native.Mathlib.Omega.{arith}
+use mathlib.Core.Bool.{true}
+use mathlib.Core.Path.{refl}
+use Rattle.rows.specs.declared.Event.the-variants.{Expiry}
+use Rattle.files.proofs.Writes.{sizes, narrow-as, whole-as}
+use Rattle.files.proofs.write.write_expiry.Statement.{statement}
+use Rattle.files.proofs.write.write_expiry.Tie as tie
+
+returns : tie.Need-returns
+returns c = narrow-as Expiry _ true _ refl refl (c .before .size-of .ensures) (omega arith)
+
+returns-2 : tie.Need-returns-2
+returns-2 c =
+    let p = c .before .before in
+    whole-as Expiry _ true _ refl refl (p .before .before .before .size-of .ensures) _ _ (omega arith) (p .put-expiry .ensures)
+
+pub write-expiry-spec : {M : Type 1} → statement M
+write-expiry-spec = tie.close (tie.spec (λ c. λ κs. search needs) returns (λ c. λ κs. omega (arith, sizes)) (λ c. search needs) returns-2)

@@ -1,0 +1,53 @@
+-- The writer of events: what it answers, and what the lent buffer then holds. 02 #102: "A field out of range is refused with the lent buffer
+-- unchanged, and so is a record longer than the room in it. Refusals: 3, then 8."
+-- Assumes nothing.
+use mathlib.Core.List.{List, _++_}
+use Prim.Native.Nat.{ℕ}
+use lib.ListN.{length, drop}
+use Rattle.text.specs.Choose.{ifLt, ifSo}
+use Rattle.rows.specs.Valid.{eventOk}
+use Rattle.rows.specs.declared.Event.{Event}
+use Rattle.rows.specs.declared.Event.the-variants.{Received}
+use Rattle.rows.specs.declared.Number.{Number}
+use Rattle.files.specs.Bodies.{componentOf, recordOf}
+use Rattle.files.specs.declared.Written.{Written}
+use Rattle.files.specs.declared.Written.the-variants.{Whole, BadField, NoRoom}
+
+-- the whole record with its length, or why it was not written: the fields are judged first
+unfoldable pub writtenOf : Event → List ℕ → Written
+writtenOf e out = ifSo (eventOk e) (ifLt (length out) (length (recordOf e)) NoRoom (Whole (length (recordOf e)))) BadField
+
+-- the record, then the bytes that stood there; on a refusal every byte as it was
+unfoldable pub leftOf : Event → List ℕ → List ℕ
+leftOf e out = ifSo (eventOk e) (ifLt (length out) (length (recordOf e)) out (recordOf e ++ drop (length (recordOf e)) out)) out
+
+-- the number of each answer, and how many bytes it wrote
+abbrev pub numberOf : Written → ℕ
+numberOf (Whole n) = 0
+numberOf BadField = 3
+numberOf NoRoom = 8
+
+abbrev pub bytesWritten : Written → ℕ
+bytesWritten (Whole n) = n
+bytesWritten BadField = 0
+bytesWritten NoRoom = 0
+
+-- ---- a host in C passes numbers
+
+-- a telephone number by its count and its value
+abbrev pub numberWith : ℕ → ℕ → Number
+numberWith count value = record { count = count; value = value }
+
+-- a message by its fields, the component by its code and the byte after it
+abbrev pub messageWith : ℕ → ℕ → ℕ → ℕ → ℕ → Number → Number → ℕ → Event
+messageWith kind cause code item parts calling called duration =
+    Received
+    (record {
+      kind = kind;
+      cause = cause;
+      component = componentOf code item;
+      parts = parts;
+      calling = calling;
+      called = called;
+      duration = duration;
+    })

@@ -1,0 +1,407 @@
+// The writer: an event as a whole record at the start of a lent buffer. Its fields are judged first, then the room; where either is bad
+// nothing is stored. The table of fields and the lengths are the reader's own.
+ghost use mathlib.Core.Path.{_≡_};
+ghost use Prim.Native.Nat.{_+_, _*_, _≤_, _<_};
+ghost use lib.ListN.{length};
+ghost use Rattle.text.specs.Text.{Put};
+ghost use Rattle.rows.specs.declared.Event.the-variants.{Opening, Ask, Received, FromAccess, Expiry, Time};
+ghost use Rattle.files.specs.Bodies.{codeOf, itemOf, numberValues, frontValues, carriedValues, headOf, recordOf};
+ghost use Rattle.files.specs.Bytes.{leOf, part};
+ghost use Rattle.files.specs.Fields.{numberFields, frontFields, carriedFields, bytesOf};
+ghost use Rattle.files.specs.Frames.{lengthOf};
+ghost use Rattle.files.specs.Write.{writtenOf, leftOf, numberOf, numberWith, messageWith};
+use crate::Written;
+use crate::bodies::component_of;
+use crate::frames::length_of;
+use rows::Component;
+use rows::Event;
+use rows::Message;
+use rows::Number;
+
+// ---- The bytes of a number, least first, where there is room for them: no test of each, so that a field is stored at once.
+
+fn put_1(out: &mut [u8], at: usize, v: u8) -> usize
+    requires { ⌜ at + 1 ≤ length (now out) ⌝ }
+    ensures { λ r. ⌜ Put (now (out .entry)) at (leOf 1 v) (now (out .exit)) r ⌝ }
+    ensures { λ r. ⌜ r ≡ at + 1 ⌝ }
+{
+    out[at] = v;
+    at + 1
+}
+
+fn put_2(out: &mut [u8], at: usize, v: u64) -> usize
+    requires { ⌜ at + 2 ≤ length (now out) ⌝ }
+    ensures { λ r. ⌜ Put (now (out .entry)) at (leOf 2 v) (now (out .exit)) r ⌝ }
+    ensures { λ r. ⌜ r ≡ at + 2 ⌝ }
+{
+    out[at] = (v % 256) as u8;
+    out[at + 1] = (v / 256 % 256) as u8;
+    at + 2
+}
+
+fn put_4(out: &mut [u8], at: usize, v: u64) -> usize
+    requires { ⌜ at + 4 ≤ length (now out) ⌝ }
+    ensures { λ r. ⌜ Put (now (out .entry)) at (leOf 4 v) (now (out .exit)) r ⌝ }
+    ensures { λ r. ⌜ r ≡ at + 4 ⌝ }
+{
+    let to = put_2(out, at, v);
+    put_2(out, to, v / 65536)
+}
+
+fn put_8(out: &mut [u8], at: usize, v: u64) -> usize
+    requires { ⌜ at + 8 ≤ length (now out) ⌝ }
+    ensures { λ r. ⌜ Put (now (out .entry)) at (leOf 8 v) (now (out .exit)) r ⌝ }
+    ensures { λ r. ⌜ r ≡ at + 8 ⌝ }
+{
+    let to = put_4(out, at, v);
+    put_4(out, to, v / 4294967296)
+}
+
+// ---- Fields
+
+// A number: the count of its digits, and 8 bytes of value.
+fn put_number(out: &mut [u8], at: usize, n: Number) -> usize
+    requires { ⌜ at + 9 ≤ length (now out) ⌝ }
+    ensures { λ r. ⌜ Put (now (out .entry)) at (bytesOf (numberFields 1) (numberValues n)) (now (out .exit)) r ⌝ }
+    ensures { λ r. ⌜ r ≡ at + 9 ⌝ }
+{
+    let to = put_1(out, at, n.count);
+    put_8(out, to, n.value)
+}
+
+// One that has no bytes where its part is not there.
+fn put_number_if(out: &mut [u8], at: usize, present: u8, n: Number) -> usize
+    requires { ⌜ (at + 9 * present ≤ length (now out)) × (present < 2) ⌝ }
+    ensures { λ r. ⌜ Put (now (out .entry)) at (bytesOf (numberFields present) (numberValues n)) (now (out .exit)) r ⌝ }
+    ensures { λ r. ⌜ r ≡ at + 9 * present ⌝ }
+{
+    if present == 1 {
+        return put_number(out, at, n);
+    }
+    at
+}
+
+fn put_duration_if(out: &mut [u8], at: usize, present: u8, seconds: u32) -> usize
+    requires { ⌜ (at + 4 * present ≤ length (now out)) × (present < 2) ⌝ }
+    ensures { λ r. ⌜ Put (now (out .entry)) at (leOf (4 * present) seconds) (now (out .exit)) r ⌝ }
+    ensures { λ r. ⌜ r ≡ at + 4 * present ⌝ }
+{
+    if present == 1 {
+        return put_4(out, at, seconds as u64);
+    }
+    at
+}
+
+// The numbers and the duration that are present follow one another.
+fn put_carried(out: &mut [u8], at: usize, m: Message) -> usize
+    requires { ⌜ at + 9 * part (m .parts) 16 + 9 * part (m .parts) 32 + 4 * part (m .parts) 64 ≤ length (now out) ⌝ }
+    ensures { λ r. ⌜ Put (now (out .entry)) at (bytesOf (carriedFields (m .parts)) (carriedValues m)) (now (out .exit)) r ⌝ }
+{
+    let calling = m.calling;
+    let called = m.called;
+    let parts = m.parts;
+    let mut to = put_number_if(out, at, parts / 16 % 2, calling);
+    to = put_number_if(out, to, parts / 32 % 2, called);
+    put_duration_if(out, to, parts / 64 % 2, m.duration)
+}
+
+fn code_of(component: Component) -> u8
+    ensures { λ r. ⌜ r ≡ codeOf component ⌝ }
+{
+    match component {
+        Component::Absent(_) => 0,
+        Component::Invoke(_) => 1,
+        Component::Result(_) => 2,
+        Component::Error(_) => 3,
+        Component::Reject(_) => 4,
+        Component::Unknown(code, _) => code,
+    }
+}
+
+fn item_of(component: Component) -> u8
+    ensures { λ r. ⌜ r ≡ itemOf component ⌝ }
+{
+    match component {
+        Component::Absent(n) => n,
+        Component::Invoke(n) => n,
+        Component::Result(n) => n,
+        Component::Error(n) => n,
+        Component::Reject(n) => n,
+        Component::Unknown(_, n) => n,
+    }
+}
+
+// ---- Records, where there is room
+
+// How many bytes a record has, with the two of its length.
+fn size_of(kind: u32, parts: u8) -> usize
+    ensures { λ r. ⌜ r ≡ 2 + lengthOf kind parts ⌝ }
+{
+    2 + length_of(kind, parts as u32) as usize
+}
+
+// The length and the kind.
+fn put_head(out: &mut [u8], kind: u32, parts: u8) -> usize
+    requires { ⌜ 4 ≤ length (now out) ⌝ }
+    ensures { λ r. ⌜ Put (now (out .entry)) 0 (headOf (lengthOf kind parts) kind) (now (out .exit)) r ⌝ }
+    ensures { λ r. ⌜ r ≡ 4 ⌝ }
+{
+    let len = length_of(kind, parts as u32);
+    let to = put_2(out, 0, len as u64);
+    put_2(out, to, kind as u64)
+}
+
+fn put_opening(out: &mut [u8], role: u8, flags: u8, own: Number) -> usize
+    requires { ⌜ 15 ≤ length (now out) ⌝ }
+    ensures { λ r. ⌜ Put (now (out .entry)) 0 (recordOf (Opening role flags own)) (now (out .exit)) r ⌝ }
+{
+    let mut to = put_head(out, 1, 0);
+    to = put_1(out, to, role);
+    to = put_1(out, to, flags);
+    put_number(out, to, own)
+}
+
+fn put_ask(out: &mut [u8], item: u8, called: Number) -> usize
+    requires { ⌜ 14 ≤ length (now out) ⌝ }
+    ensures { λ r. ⌜ Put (now (out .entry)) 0 (recordOf (Ask item called)) (now (out .exit)) r ⌝ }
+{
+    let mut to = put_head(out, 2, 0);
+    to = put_1(out, to, item);
+    put_number(out, to, called)
+}
+
+// A message: its first five bytes, and then what it carries.
+fn put_front(out: &mut [u8], at: usize, m: Message) -> usize
+    requires { ⌜ at + 5 ≤ length (now out) ⌝ }
+    ensures { λ r. ⌜ Put (now (out .entry)) at (bytesOf frontFields (frontValues m)) (now (out .exit)) r ⌝ }
+    ensures { λ r. ⌜ r ≡ at + 5 ⌝ }
+{
+    let component = m.component;
+    let code = code_of(component);
+    let item = item_of(component);
+    let mut to = put_1(out, at, m.kind);
+    to = put_1(out, to, m.cause);
+    to = put_1(out, to, code);
+    to = put_1(out, to, item);
+    put_1(out, to, m.parts)
+}
+
+fn put_message(out: &mut [u8], m: Message) -> usize
+    requires { ⌜ 2 + lengthOf 3 (m .parts) ≤ length (now out) ⌝ }
+    ensures { λ r. ⌜ Put (now (out .entry)) 0 (recordOf (Received m)) (now (out .exit)) r ⌝ }
+{
+    let mut to = put_head(out, 3, m.parts);
+    to = put_front(out, to, m);
+    put_carried(out, to, m)
+}
+
+fn put_access(out: &mut [u8], item: u8, error: u8) -> usize
+    requires { ⌜ 6 ≤ length (now out) ⌝ }
+    ensures { λ r. ⌜ Put (now (out .entry)) 0 (recordOf (FromAccess item error)) (now (out .exit)) r ⌝ }
+{
+    let mut to = put_head(out, 4, 0);
+    to = put_1(out, to, item);
+    put_1(out, to, error)
+}
+
+fn put_expiry(out: &mut [u8]) -> usize
+    requires { ⌜ 4 ≤ length (now out) ⌝ }
+    ensures { λ r. ⌜ Put (now (out .entry)) 0 (recordOf Expiry) (now (out .exit)) r ⌝ }
+{
+    put_head(out, 5, 0)
+}
+
+fn put_time(out: &mut [u8], seconds: u32) -> usize
+    requires { ⌜ 8 ≤ length (now out) ⌝ }
+    ensures { λ r. ⌜ Put (now (out .entry)) 0 (recordOf (Time seconds)) (now (out .exit)) r ⌝ }
+{
+    let to = put_head(out, 6, 0);
+    put_4(out, to, seconds as u64)
+}
+
+// ---- Each kind: 3, then 8, then the record
+
+fn write_opening(role: u8, flags: u8, own: Number, out: &mut [u8]) -> Written
+    ensures { λ w. ⌜ (w ≡ writtenOf (Opening role flags own) (now (out .entry)))
+        × (now (out .exit) ≡ leftOf (Opening role flags own) (now (out .entry))) ⌝ }
+{
+    if rows::opening_ok(role, flags, own) {
+        if out.len() < size_of(1, 0) {
+            return Written::NoRoom;
+        }
+        return Written::Whole(put_opening(out, role, flags, own));
+    }
+    Written::BadField
+}
+
+fn write_ask(item: u8, called: Number, out: &mut [u8]) -> Written
+    ensures { λ w. ⌜ (w ≡ writtenOf (Ask item called) (now (out .entry))) × (now (out .exit) ≡ leftOf (Ask item called) (now (out .entry))) ⌝ }
+{
+    if rows::ask_ok(item, called) {
+        if out.len() < size_of(2, 0) {
+            return Written::NoRoom;
+        }
+        return Written::Whole(put_ask(out, item, called));
+    }
+    Written::BadField
+}
+
+fn write_message(m: Message, out: &mut [u8]) -> Written
+    ensures { λ w. ⌜ (w ≡ writtenOf (Received m) (now (out .entry))) × (now (out .exit) ≡ leftOf (Received m) (now (out .entry))) ⌝ }
+{
+    if rows::message_ok(m) {
+        if out.len() < size_of(3, m.parts) {
+            return Written::NoRoom;
+        }
+        return Written::Whole(put_message(out, m));
+    }
+    Written::BadField
+}
+
+fn write_access(item: u8, error: u8, out: &mut [u8]) -> Written
+    ensures { λ w. ⌜ (w ≡ writtenOf (FromAccess item error) (now (out .entry)))
+        × (now (out .exit) ≡ leftOf (FromAccess item error) (now (out .entry))) ⌝ }
+{
+    if rows::access_ok(item, error) {
+        if out.len() < size_of(4, 0) {
+            return Written::NoRoom;
+        }
+        return Written::Whole(put_access(out, item, error));
+    }
+    Written::BadField
+}
+
+fn write_expiry(out: &mut [u8]) -> Written
+    ensures { λ w. ⌜ (w ≡ writtenOf Expiry (now (out .entry))) × (now (out .exit) ≡ leftOf Expiry (now (out .entry))) ⌝ }
+{
+    if out.len() < size_of(5, 0) {
+        return Written::NoRoom;
+    }
+    Written::Whole(put_expiry(out))
+}
+
+fn write_time(seconds: u32, out: &mut [u8]) -> Written
+    ensures { λ w. ⌜ (w ≡ writtenOf (Time seconds) (now (out .entry))) × (now (out .exit) ≡ leftOf (Time seconds) (now (out .entry))) ⌝ }
+{
+    if rows::time_ok(seconds) {
+        if out.len() < size_of(6, 0) {
+            return Written::NoRoom;
+        }
+        return Written::Whole(put_time(out, seconds));
+    }
+    Written::BadField
+}
+
+// ---- For hosts
+
+// Any event.
+pub fn write_event(e: Event, out: &mut [u8]) -> Written
+    ensures { λ w. ⌜ (w ≡ writtenOf e (now (out .entry))) × (now (out .exit) ≡ leftOf e (now (out .entry))) ⌝ }
+{
+    match e {
+        Event::Opening(role, flags, own) => write_opening(role, flags, own, out),
+        Event::Ask(item, called) => write_ask(item, called, out),
+        Event::Received(m) => write_message(m, out),
+        Event::FromAccess(item, error) => write_access(item, error, out),
+        Event::Expiry => write_expiry(out),
+        Event::Time(seconds) => write_time(seconds, out),
+    }
+}
+
+// The number of an answer: 0, 3 or 8.
+fn number_of(w: Written) -> u32
+    ensures { λ r. ⌜ r ≡ numberOf w ⌝ }
+{
+    match w {
+        Written::Whole(_) => 0,
+        Written::BadField => 3,
+        Written::NoRoom => 8,
+    }
+}
+
+// Each kind for a host in C: on numbers, a telephone number as its count and its value. What they give is the number; the length stands in
+// the record's first two bytes.
+#[no_mangle]
+pub extern "C" fn rev_write_opening(
+    role: u8,
+    flags: u8,
+    count: u8,
+    value: u64,
+    out: &mut [u8],
+) -> u32
+    ensures { λ r. ⌜ (r ≡ numberOf (writtenOf (Opening role flags (numberWith count value)) (now (out .entry))))
+        × (now (out .exit) ≡ leftOf (Opening role flags (numberWith count value)) (now (out .entry))) ⌝ }
+{
+    let own = Number { count, value };
+    number_of(write_opening(role, flags, own, out))
+}
+
+#[no_mangle]
+pub extern "C" fn rev_write_request(item: u8, count: u8, value: u64, out: &mut [u8]) -> u32
+    ensures { λ r. ⌜ (r ≡ numberOf (writtenOf (Ask item (numberWith count value)) (now (out .entry))))
+        × (now (out .exit) ≡ leftOf (Ask item (numberWith count value)) (now (out .entry))) ⌝ }
+{
+    let called = Number { count, value };
+    number_of(write_ask(item, called, out))
+}
+
+#[no_mangle]
+pub extern "C" fn rev_write_message(
+    kind: u8,
+    cause: u8,
+    code: u8,
+    item: u8,
+    parts: u8,
+    callingcount: u8,
+    callingvalue: u64,
+    calledcount: u8,
+    calledvalue: u64,
+    duration: u32,
+    out: &mut [u8],
+) -> u32
+    ensures { λ r. ⌜ (r ≡ numberOf (writtenOf (messageWith kind cause code item parts (numberWith callingcount callingvalue) (numberWith calledcount calledvalue) duration) (now (out .entry))))
+        × (now (out .exit) ≡ leftOf (messageWith kind cause code item parts (numberWith callingcount callingvalue) (numberWith calledcount calledvalue) duration) (now (out .entry))) ⌝ }
+{
+    let calling = Number {
+        count: callingcount,
+        value: callingvalue,
+    };
+    let called = Number {
+        count: calledcount,
+        value: calledvalue,
+    };
+    let component = component_of(code, item);
+    let m = Message {
+        kind,
+        cause,
+        component,
+        parts,
+        calling,
+        called,
+        duration,
+    };
+    number_of(write_message(m, out))
+}
+
+#[no_mangle]
+pub extern "C" fn rev_write_access(item: u8, error: u8, out: &mut [u8]) -> u32
+    ensures { λ r. ⌜ (r ≡ numberOf (writtenOf (FromAccess item error) (now (out .entry))))
+        × (now (out .exit) ≡ leftOf (FromAccess item error) (now (out .entry))) ⌝ }
+{
+    number_of(write_access(item, error, out))
+}
+
+#[no_mangle]
+pub extern "C" fn rev_write_expiry(out: &mut [u8]) -> u32
+    ensures { λ r. ⌜ (r ≡ numberOf (writtenOf Expiry (now (out .entry)))) × (now (out .exit) ≡ leftOf Expiry (now (out .entry))) ⌝ }
+{
+    number_of(write_expiry(out))
+}
+
+#[no_mangle]
+pub extern "C" fn rev_write_time(seconds: u32, out: &mut [u8]) -> u32
+    ensures { λ r. ⌜ (r ≡ numberOf (writtenOf (Time seconds) (now (out .entry))))
+        × (now (out .exit) ≡ leftOf (Time seconds) (now (out .entry))) ⌝ }
+{
+    number_of(write_time(seconds, out))
+}

@@ -1,0 +1,85 @@
+/*
+ * A host: writes the events of a call to an event file, as they come, and prints its listing.
+ *
+ *   write FILE
+ *
+ * The call is the worked one of the rules: the caller asks that the called user pay (case A), who accepts; they talk for a minute, and the
+ * caller asks once more in vain. The status is 0 where file and listing are whole, else 2.
+ */
+#include "rev.h"
+
+#include <stdio.h>
+#include <string.h>
+
+/* The numbers of docs/FORMAT.md that this call takes. */
+enum { ORIGINATING = 0, INTERACTION_ALLOWED = 8, CASE_A = 1, CASE_B = 2, ANM = 2, RESULT = 2, SETUP = 1, CLEAR = 4 };
+
+/* The event file so far. */
+struct journal {
+    uint8_t bytes[REV_LONGEST];
+    size_t length;
+};
+
+/* Adds a record to the journal if its writer has written it; gives whether it is there. */
+static int add(struct journal *journal, uint32_t given, const uint8_t *record)
+{
+    size_t length;
+
+    if (given != REV_WRITTEN) {
+        fprintf(stderr, "a record is refused with %u\n", (unsigned)given);
+        return 0;
+    }
+    length = rev_record_length(record);
+    if (length > sizeof journal->bytes - journal->length) {
+        fprintf(stderr, "the file would have more than %u bytes\n", REV_LONGEST);
+        return 0;
+    }
+    memcpy(journal->bytes + journal->length, record, length);
+    journal->length += length;
+    return 1;
+}
+
+static int write_call(struct journal *journal)
+{
+    uint8_t record[REV_RECORD];
+
+    return add(journal, rev_write_opening(ORIGINATING, INTERACTION_ALLOWED, 7, 5550100, record, sizeof record), record) &&
+           add(journal, rev_write_request(CASE_A, 7, 5550123, record, sizeof record), record) &&
+           add(journal, rev_write_time(8, record, sizeof record), record) &&
+           add(journal, rev_write_message(ANM, 0, RESULT, SETUP, 0, 0, 0, 0, 0, 0, record, sizeof record), record) &&
+           add(journal, rev_write_time(60, record, sizeof record), record) &&
+           add(journal, rev_write_request(CASE_B, 0, 0, record, sizeof record), record) &&
+           add(journal, rev_write_access(CLEAR, 0, record, sizeof record), record);
+}
+
+/* Writes the bytes and closes the file, whose name is said if that fails. Only fclose tells whether all of them arrived. */
+static int save(FILE *file, const char *name, const uint8_t *bytes, size_t length)
+{
+    int whole = file != NULL && fwrite(bytes, 1, length, file) == length;
+
+    if ((file != NULL && fclose(file) != 0) || !whole) {
+        perror(name);
+        return 0;
+    }
+    return 1;
+}
+
+int main(int argc, char **argv)
+{
+    static struct journal journal;
+    static uint8_t listing[4096];
+    size_t length;
+
+    if (argc != 2) {
+        fprintf(stderr, "usage: write FILE\n");
+        return 2;
+    }
+    if (!write_call(&journal) || !save(fopen(argv[1], "wb"), argv[1], journal.bytes, journal.length))
+        return 2;
+    length = rev_listing(journal.bytes, journal.length, listing, sizeof listing);
+    if (length == REV_TOO_LONG) {
+        fprintf(stderr, "the listing has more than %zu bytes\n", sizeof listing);
+        return 2;
+    }
+    return save(stdout, "standard output", listing, length) ? 0 : 2;
+}

@@ -1,0 +1,128 @@
+/*
+ * Writes many events in one process, for a comparison with another writer.
+ *
+ * Each event comes on standard input as its kind, a byte; its fields, in the order of the writer's parameters; and a 4-byte length and
+ * the bytes that the lent buffer has before the call. To standard output go the 4 bytes that the writer gave; the buffer's bytes after the
+ * call; and a 4-byte length and the dump of the record, empty where none was written. They are flushed before more is read. All numbers
+ * are little-endian. The program ends with status 0 when its input does; with 3 if a byte outside the buffer was changed; else with 2.
+ *
+ * The writers are rev_write_opening and so on, unless -DPLAIN takes those of bench/plain.h.
+ */
+#include "rev.h"
+
+#include <stdio.h>
+#include <string.h>
+
+#ifdef PLAIN
+#include "plain.h"
+#define WRITE(kind) plain_write_##kind
+#else
+#define WRITE(kind) rev_write_##kind
+#endif
+
+enum { ROOM = 256, GUARD = 64, TEXT = 4096, KINDS = 6, FIELDS = 27 };
+
+static const size_t fields_length[1 + KINDS] = {0, 11, 10, FIELDS, 2, 0, 4};
+
+static uint8_t guarded[GUARD + ROOM + GUARD], text[TEXT];
+static uint8_t *const out = guarded + GUARD;
+
+static uint32_t four_bytes(const uint8_t *at)
+{
+    return at[0] | (uint32_t)at[1] << 8 | (uint32_t)at[2] << 16 | (uint32_t)at[3] << 24;
+}
+
+static uint64_t eight_bytes(const uint8_t *at)
+{
+    return four_bytes(at) | (uint64_t)four_bytes(at + 4) << 32;
+}
+
+static uint32_t write_event(unsigned kind, const uint8_t *at, size_t room)
+{
+    switch (kind) {
+    case 1:
+        return WRITE(opening)(at[0], at[1], at[2], eight_bytes(at + 3), out, room);
+    case 2:
+        return WRITE(request)(at[0], at[1], eight_bytes(at + 2), out, room);
+    case 3:
+        return WRITE(message)(at[0], at[1], at[2], at[3], at[4], at[5], eight_bytes(at + 6), at[14], eight_bytes(at + 15),
+                              four_bytes(at + 23), out, room);
+    case 4:
+        return WRITE(access)(at[0], at[1], out, room);
+    case 5:
+        return WRITE(expiry)(out, room);
+    default:
+        return WRITE(time)(four_bytes(at), out, room);
+    }
+}
+
+/* A byte for each place outside the buffer, different from those around it. */
+static uint8_t filler(size_t i)
+{
+    return (uint8_t)(i * 37 + 11);
+}
+
+static void fill(size_t from, size_t to)
+{
+    for (size_t i = from; i < to; i++)
+        guarded[i] = filler(i);
+}
+
+static int stays(size_t from, size_t to)
+{
+    for (size_t i = from; i < to; i++)
+        if (guarded[i] != filler(i))
+            return 0;
+    return 1;
+}
+
+/* The length of the dump of the record that stands in the buffer. A length that it claims past the room is left to be found there. */
+static size_t dump(size_t room)
+{
+    size_t length = room < 2 ? room : rev_record_length(out);
+    size_t dumped = rev_dump(out, length < room ? length : room, text, sizeof text);
+
+    return dumped == REV_TOO_LONG ? 0 : dumped;
+}
+
+static int put(const uint8_t *bytes, size_t length)
+{
+    return fwrite(bytes, 1, length, stdout) == length;
+}
+
+static int put_four(uint32_t value)
+{
+    uint8_t bytes[4] = {value & 0xFF, value >> 8 & 0xFF, value >> 16 & 0xFF, value >> 24};
+
+    return put(bytes, sizeof bytes);
+}
+
+static int get(uint8_t *bytes, size_t length)
+{
+    return fread(bytes, 1, length, stdin) == length;
+}
+
+int main(void)
+{
+    uint8_t kind, fields[FIELDS], head[4];
+
+    while (get(&kind, 1)) {
+        size_t room, dumped;
+        uint32_t given;
+
+        if (kind < 1 || kind > KINDS || !get(fields, fields_length[kind]) || !get(head, sizeof head))
+            return 2;
+        room = four_bytes(head);
+        if (room > ROOM || !get(out, room))
+            return 2;
+        fill(0, GUARD);
+        fill(GUARD + room, sizeof guarded);
+        given = write_event(kind, fields, room);
+        if (!stays(0, GUARD) || !stays(GUARD + room, sizeof guarded))
+            return 3;
+        dumped = given == REV_WRITTEN ? dump(room) : 0;
+        if (!put_four(given) || !put(out, room) || !put_four((uint32_t)dumped) || !put(text, dumped) || fflush(stdout) != 0)
+            return 2;
+    }
+    return feof(stdin) && !ferror(stdin) ? 0 : 2;
+}

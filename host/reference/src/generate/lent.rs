@@ -1,0 +1,129 @@
+//! Events for a writer, in range or not, each with the bytes of the buffer that it is lent.
+
+use super::fields;
+use super::random::Random;
+use crate::write::{part, Event, Message, Number};
+
+/// The event and the buffer of a seed and an ordinal. Each can be made again without those before it.
+pub fn lent(seed: u64, ordinal: u64) -> (Event, Vec<u8>) {
+    let mut random = Random::new(seed, ordinal);
+    let event = event(&mut random);
+    let room = room(&mut random, event.size());
+    (event, (0..room).map(|_| random.byte()).collect())
+}
+
+/// Half of them are in range; the rest have one bad field or two, or any bytes at all.
+fn event(random: &mut Random) -> Event {
+    match random.below(20) {
+        0..=9 => Event::of_record(&fields::any(random)),
+        10..=14 => spoilt(random, 1),
+        15 => spoilt(random, 2),
+        16..=17 => unnamed(random),
+        _ => wild(random),
+    }
+}
+
+/// An event with bad fields; its parts name all the numbers that it has.
+fn spoilt(random: &mut Random, times: u32) -> Event {
+    let mut record = fields::any(random);
+    for _ in 0..times {
+        fields::spoil(random, &mut record);
+    }
+    Event::of_record(&record)
+}
+
+/// A message with a number or Duration that its parts do not name.
+fn unnamed(random: &mut Random) -> Event {
+    let (name, component) = (1 + random.below(5) as u8, random.below(5) as u8);
+    let item = fields::good_detail(random, component);
+    let parts = fields::good_parts(random.byte());
+    let Event::Message(mut message) = Event::of_record(&fields::message(random, name, component, item, parts)) else {
+        unreachable!("the record of a message")
+    };
+    match random.below(3) {
+        0 => {
+            message.parts &= !part::CALLING;
+            message.calling = not_absent(random);
+        }
+        1 => {
+            message.parts &= !part::CALLED;
+            message.called = not_absent(random);
+        }
+        _ => {
+            message.parts &= !part::DURATION;
+            message.duration = random.duration().max(1);
+        }
+    }
+    Event::Message(message)
+}
+
+fn not_absent(random: &mut Random) -> Number {
+    let (count, value) = match random.below(4) {
+        0 => (0, 1),
+        1 => (1, 0),
+        2 => (0, random.next().max(1)),
+        _ => random.digits(),
+    };
+    Number { count, value }
+}
+
+/// Fields of any bytes, or of small ones.
+fn wild(random: &mut Random) -> Event {
+    let least = random.pick(&[4, 8, 32, 256]);
+    let mut byte = || random.below(least) as u8;
+    let (a, b, c, d, e) = (byte(), byte(), byte(), byte(), byte());
+    let counts = (byte(), byte());
+    let mut value = || random.next() >> random.below(64);
+    let (calling, called) = (Number { count: counts.0, value: value() }, Number { count: counts.1, value: value() });
+    let seconds = value() as u32;
+    match random.below(6) {
+        0 => Event::Opening { role: a, flags: b, own: calling },
+        1 => Event::Request { request: a, called },
+        2..=3 => Event::Message(Message {
+            message: a,
+            cause: b,
+            component: c,
+            item: d,
+            parts: e,
+            calling,
+            called,
+            duration: seconds,
+        }),
+        4 => Event::Access { told: a, error: b },
+        _ => Event::Time { seconds },
+    }
+}
+
+/// The bytes that are lent for a record of this size: none, too few, too few by one, just as many, or more.
+fn room(random: &mut Random, size: usize) -> usize {
+    match random.below(10) {
+        0 => 0,
+        1 => random.below(size as u64) as usize,
+        2 => size - 1,
+        3..=6 => size,
+        7 => size + 1,
+        _ => size + random.below(48) as usize,
+    }
+}
+
+#[cfg(test)]
+mod tests {
+    use super::*;
+
+    #[test]
+    fn a_seed_gives_the_same_events() {
+        let events = |seed| (0..300).map(|ordinal| lent(seed, ordinal)).collect::<Vec<_>>();
+        assert_eq!(events(5), events(5));
+        assert_ne!(events(5), events(6));
+        assert_eq!(lent(5, 299), events(5)[299]);
+    }
+
+    #[test]
+    fn unnamed_fields_alone_are_bad() {
+        let mut random = Random::new(4, 0);
+        for _ in 0..2000 {
+            let event = unnamed(&mut random);
+            assert!(matches!(event.bad_fields()[..], ["calling number" | "called number" | "duration"]), "{event:?}");
+        }
+    }
+}

@@ -1,0 +1,409 @@
+//! The model's own writer of events, from docs/FORMAT.md and 02 #102. It shares no code with the reader of the model, and takes fields
+//! as a host gives them, in range or not.
+
+/// A telephone number.
+#[derive(Clone, Copy, PartialEq, Eq, Debug)]
+pub struct Number {
+    pub count: u8,
+    pub value: u64,
+}
+
+impl Number {
+    /// "Where a number is not wanted it is nine zero bytes."
+    pub const ABSENT: Number = Number { count: 0, value: 0 };
+
+    /// "a count of digits, one byte, 1 to 15, and 8 bytes of value, below ten to the count": the value has no more digits than that.
+    fn in_range(self) -> bool {
+        self.count <= 15 && self.value.to_string().len() <= usize::from(self.count)
+    }
+
+    fn fits(self, wanted: bool) -> bool {
+        if wanted {
+            self.in_range()
+        } else {
+            self == Number::ABSENT
+        }
+    }
+
+    fn bytes(self) -> Vec<u8> {
+        [vec![self.count], self.value.to_le_bytes().to_vec()].concat()
+    }
+}
+
+/// The parts that bring bytes of their own.
+pub mod part {
+    pub const CALLING: u8 = 16;
+    pub const CALLED: u8 = 32;
+    pub const DURATION: u8 = 64;
+}
+
+#[derive(Clone, Copy, PartialEq, Eq, Debug)]
+pub struct Message {
+    pub message: u8,
+    pub cause: u8,
+    pub component: u8,
+    /// the operation or error number
+    pub item: u8,
+    pub parts: u8,
+    pub calling: Number,
+    pub called: Number,
+    pub duration: u32,
+}
+
+impl Message {
+    pub fn names(&self, part: u8) -> bool {
+        self.parts & part != 0
+    }
+
+    /// "the operation of an invoke or a result (1 SETUP, 2 ACTIVE, 3 CALLED ..), the number of an error, else 0"
+    fn item_in_range(&self) -> bool {
+        match self.component {
+            0 | 4 => self.item == 0,
+            1 | 2 => (1..=3).contains(&self.item),
+            // any error; of a component that is none the component is the bad field
+            _ => true,
+        }
+    }
+
+    /// "4 its answer is transfer (not without 2)"; 128 is no part.
+    fn parts_in_range(&self) -> bool {
+        !self.names(128) && (!self.names(4) || self.names(2))
+    }
+
+    fn body(&self) -> Vec<u8> {
+        let mut body = vec![self.message, self.cause, self.component, self.item, self.parts];
+        if self.names(part::CALLING) {
+            body.extend(self.calling.bytes());
+        }
+        if self.names(part::CALLED) {
+            body.extend(self.called.bytes());
+        }
+        if self.names(part::DURATION) {
+            body.extend(self.duration.to_le_bytes());
+        }
+        body
+    }
+}
+
+#[derive(Clone, Copy, PartialEq, Eq, Debug)]
+pub enum Event {
+    Opening { role: u8, flags: u8, own: Number },
+    Request { request: u8, called: Number },
+    Message(Message),
+    Access { told: u8, error: u8 },
+    Expiry,
+    Time { seconds: u32 },
+}
+
+/// 02 #102: "Refusals: 3, then 8."
+#[derive(Clone, Copy, PartialEq, Eq, Debug)]
+#[repr(u8)]
+pub enum Refusal {
+    BadField = 3,
+    NoRoom = 8,
+}
+
+impl Event {
+    pub fn kind(&self) -> u8 {
+        match self {
+            Event::Opening { .. } => 1,
+            Event::Request { .. } => 2,
+            Event::Message(_) => 3,
+            Event::Access { .. } => 4,
+            Event::Expiry => 5,
+            Event::Time { .. } => 6,
+        }
+    }
+
+    /// The names of the fields that are out of their range, in the order of the record.
+    pub fn bad_fields(&self) -> Vec<&'static str> {
+        let fields = match *self {
+            Event::Opening { role, flags, own } => {
+                vec![("role", role <= 1), ("flags", flags < 32), ("number", own.fits(true))]
+            }
+            Event::Request { request, called } => {
+                vec![("request", request <= 3), ("number", called.fits(request <= 1))]
+            }
+            Event::Message(message) => vec![
+                ("message", (1..=5).contains(&message.message)),
+                ("cause", message.cause <= 127),
+                ("component", message.component <= 4),
+                ("item", message.item_in_range()),
+                ("parts", message.parts_in_range()),
+                ("calling number", message.calling.fits(message.names(part::CALLING))),
+                ("called number", message.called.fits(message.names(part::CALLED))),
+                ("duration", message.names(part::DURATION) || message.duration == 0),
+            ],
+            Event::Access { told, error } => {
+                vec![("told", (1..=5).contains(&told)), ("error", told == 2 || error == 0)]
+            }
+            Event::Expiry => vec![],
+            Event::Time { seconds } => vec![("seconds", seconds <= 86_400)],
+        };
+        fields.into_iter().filter(|(_, good)| !good).map(|(name, _)| name).collect()
+    }
+
+    /// The record, whether its fields are in range or not.
+    fn record(&self) -> Vec<u8> {
+        let body = match *self {
+            Event::Opening { role, flags, own } => [vec![role, flags], own.bytes()].concat(),
+            Event::Request { request, called } => [vec![request], called.bytes()].concat(),
+            Event::Message(message) => message.body(),
+            Event::Access { told, error } => vec![told, error],
+            Event::Expiry => vec![],
+            Event::Time { seconds } => seconds.to_le_bytes().to_vec(),
+        };
+        let (length, kind) = (2 + body.len() as u16, u16::from(self.kind()));
+        [length.to_le_bytes().to_vec(), kind.to_le_bytes().to_vec(), body].concat()
+    }
+
+    /// How many bytes the record has, or would have.
+    pub fn size(&self) -> usize {
+        self.record().len()
+    }
+
+    /// The record, in a room of so many bytes.
+    pub fn write(&self, room: usize) -> Result<Vec<u8>, Refusal> {
+        if !self.bad_fields().is_empty() {
+            return Err(Refusal::BadField);
+        }
+        let record = self.record();
+        if record.len() > room {
+            return Err(Refusal::NoRoom);
+        }
+        Ok(record)
+    }
+
+    /// The event of a record whose framing is right; its fields may be out of range.
+    pub fn of_record(record: &[u8]) -> Event {
+        let mut fields = Fields(&record[4..]);
+        match record[2] {
+            1 => Event::Opening { role: fields.byte(), flags: fields.byte(), own: fields.number(true) },
+            2 => Event::Request { request: fields.byte(), called: fields.number(true) },
+            3 => Event::Message(fields.message()),
+            4 => Event::Access { told: fields.byte(), error: fields.byte() },
+            5 => Event::Expiry,
+            _ => Event::Time { seconds: fields.seconds(true) },
+        }
+    }
+}
+
+/// The fields of a record that are not read yet. One that is not there is zero.
+struct Fields<'a>(&'a [u8]);
+
+impl Fields<'_> {
+    fn take<const SIZE: usize>(&mut self) -> [u8; SIZE] {
+        let (field, rest) = self.0.split_first_chunk().expect("a record as long as its kind and parts say");
+        self.0 = rest;
+        *field
+    }
+
+    fn byte(&mut self) -> u8 {
+        u8::from_le_bytes(self.take())
+    }
+
+    fn number(&mut self, there: bool) -> Number {
+        if !there {
+            return Number::ABSENT;
+        }
+        Number { count: self.byte(), value: u64::from_le_bytes(self.take()) }
+    }
+
+    fn seconds(&mut self, there: bool) -> u32 {
+        if !there {
+            return 0;
+        }
+        u32::from_le_bytes(self.take())
+    }
+
+    fn message(&mut self) -> Message {
+        let [message, cause, component, item, parts] = self.take();
+        let calling = self.number(parts & part::CALLING != 0);
+        let called = self.number(parts & part::CALLED != 0);
+        let duration = self.seconds(parts & part::DURATION != 0);
+        Message { message, cause, component, item, parts, calling, called, duration }
+    }
+}
+
+#[cfg(test)]
+mod tests {
+    use super::*;
+
+    const HOME: Number = Number { count: 7, value: 5_550_100 };
+    const MOST: Number = Number { count: 15, value: 999_999_999_999_999 };
+
+    /// FAC with a result to CALLED and every part, 31 bytes.
+    const FULL: Message = Message {
+        message: 5,
+        cause: 127,
+        component: 2,
+        item: 3,
+        parts: 127,
+        calling: HOME,
+        called: MOST,
+        duration: u32::MAX,
+    };
+
+    /// ANM that carries nothing.
+    const PLAIN: Message = Message {
+        message: 2,
+        cause: 0,
+        component: 0,
+        item: 0,
+        parts: 0,
+        calling: Number::ABSENT,
+        called: Number::ABSENT,
+        duration: 0,
+    };
+
+    fn number(count: u8, value: u64) -> Number {
+        Number { count, value }
+    }
+
+    fn opening(role: u8, flags: u8, own: Number) -> Event {
+        Event::Opening { role, flags, own }
+    }
+
+    fn request(request: u8, called: Number) -> Event {
+        Event::Request { request, called }
+    }
+
+    fn access(told: u8, error: u8) -> Event {
+        Event::Access { told, error }
+    }
+
+    fn time(seconds: u32) -> Event {
+        Event::Time { seconds }
+    }
+
+    fn full_record() -> Vec<u8> {
+        let head = vec![29, 0, 3, 0, 5, 127, 2, 3, 127];
+        let calling = vec![7, 0x14, 0xB0, 0x54, 0, 0, 0, 0, 0];
+        let called = vec![15, 0xFF, 0x7F, 0xC6, 0xA4, 0x7E, 0x8D, 3, 0];
+        [head, calling, called, vec![255; 4]].concat()
+    }
+
+    /// Each kind, byte for byte, with as much room as it takes; a byte less is 8.
+    #[test]
+    fn records() {
+        let records = [
+            (opening(0, 8, HOME), vec![13, 0, 1, 0, 0, 8, 7, 0x14, 0xB0, 0x54, 0, 0, 0, 0, 0]),
+            (request(1, number(1, 0)), vec![12, 0, 2, 0, 1, 1, 0, 0, 0, 0, 0, 0, 0, 0]),
+            (request(2, Number::ABSENT), vec![12, 0, 2, 0, 2, 0, 0, 0, 0, 0, 0, 0, 0, 0]),
+            (Event::Message(PLAIN), vec![7, 0, 3, 0, 2, 0, 0, 0, 0]),
+            (Event::Message(FULL), full_record()),
+            (access(2, 255), vec![4, 0, 4, 0, 2, 255]),
+            (Event::Expiry, vec![2, 0, 5, 0]),
+            (time(86_400), vec![6, 0, 6, 0, 0x80, 0x51, 1, 0]),
+        ];
+        for (event, record) in records {
+            let size = record.len();
+            assert_eq!(event.size(), size);
+            for room in 0..size {
+                assert_eq!(event.write(room), Err(Refusal::NoRoom), "{event:?} in {room} bytes");
+            }
+            for room in size..size + 3 {
+                assert_eq!(event.write(room).as_ref(), Ok(&record), "{event:?} in {room} bytes");
+            }
+            assert_eq!(Event::of_record(&record), event);
+        }
+    }
+
+    /// One bad field each: 3 in any room, so also where there is none.
+    #[test]
+    fn bad_fields() {
+        let message = |change: fn(&mut Message)| {
+            let mut message = PLAIN;
+            change(&mut message);
+            Event::Message(message)
+        };
+        let full = |change: fn(&mut Message)| {
+            let mut message = FULL;
+            change(&mut message);
+            Event::Message(message)
+        };
+        let cases = [
+            ("role", opening(2, 31, HOME)),
+            ("flags", opening(1, 32, HOME)),
+            ("number", opening(1, 0, Number::ABSENT)),
+            ("number", opening(1, 0, number(0, 1))),
+            ("number", opening(1, 0, number(1, 10))),
+            ("number", opening(1, 0, number(15, MOST.value + 1))),
+            ("number", opening(1, 0, number(16, 0))),
+            ("number", opening(1, 0, number(255, u64::MAX))),
+            ("request", request(4, Number::ABSENT)),
+            ("number", request(0, Number::ABSENT)),
+            ("number", request(2, number(0, 1))),
+            ("number", request(3, number(1, 0))),
+            ("message", message(|m| m.message = 0)),
+            ("message", message(|m| m.message = 6)),
+            ("cause", message(|m| m.cause = 128)),
+            ("component", message(|m| m.component = 5)),
+            ("item", message(|m| m.item = 1)),
+            ("item", full(|m| m.item = 0)),
+            ("item", full(|m| m.item = 4)),
+            ("item", full(|m| (m.component, m.item) = (4, 3))),
+            ("parts", message(|m| m.parts = 128)),
+            ("parts", message(|m| m.parts = 4)),
+            ("calling number", full(|m| m.calling = Number::ABSENT)),
+            ("calling number", full(|m| m.parts &= !part::CALLING)),
+            ("called number", full(|m| m.called.value += 1)),
+            ("called number", message(|m| m.called.count = 1)),
+            ("duration", full(|m| m.parts &= !part::DURATION)),
+            ("told", access(0, 0)),
+            ("told", access(6, 0)),
+            ("error", access(1, 1)),
+            ("seconds", time(86_401)),
+        ];
+        for (field, event) in cases {
+            assert_eq!(event.bad_fields(), [field], "{event:?}");
+            for room in [0, event.size() - 1, event.size(), 40] {
+                assert_eq!(event.write(room), Err(Refusal::BadField), "{event:?} in {room} bytes");
+            }
+        }
+    }
+
+    /// Every byte of a field and every number around its bounds are judged as the reader judges them.
+    #[test]
+    fn ranges_are_those_of_the_reader() {
+        let judged = |event: Event| {
+            let record = event.record();
+            let read = crate::model::events::frame(&record).expect("right framing").event();
+            assert_eq!(event.bad_fields().is_empty(), read.is_some(), "{event:?}");
+        };
+        for byte in 0..=255 {
+            judged(opening(byte, 0, HOME));
+            judged(opening(0, byte, HOME));
+            judged(request(byte, HOME));
+            judged(request(byte, Number::ABSENT));
+            judged(access(byte, 0));
+            judged(access(byte, 1));
+            judged(access(2, byte));
+            judged(Event::Message(Message { message: byte, ..FULL }));
+            judged(Event::Message(Message { cause: byte, ..FULL }));
+            for component in 0..=255 {
+                judged(Event::Message(Message { component, item: byte, ..FULL }));
+            }
+            // What the parts do not name the reader does not see.
+            let there = |part| byte & part != 0;
+            judged(Event::Message(Message {
+                parts: byte,
+                calling: if there(part::CALLING) { HOME } else { Number::ABSENT },
+                called: if there(part::CALLED) { MOST } else { Number::ABSENT },
+                duration: if there(part::DURATION) { 7 } else { 0 },
+                ..FULL
+            }));
+            for digits in 0..20 {
+                let limit = 10_u64.pow(digits);
+                for value in [limit - 1, limit, limit + 1, 0, u64::MAX] {
+                    judged(opening(0, 0, number(byte, value)));
+                    judged(Event::Message(Message { calling: number(byte, value), ..FULL }));
+                }
+            }
+        }
+        for seconds in [0, 1, 86_399, 86_400, 86_401, 1 << 24, u32::MAX] {
+            judged(time(seconds));
+            judged(Event::Message(Message { duration: seconds, ..FULL }));
+        }
+    }
+}

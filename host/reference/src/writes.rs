@@ -1,0 +1,187 @@
+//! Compares another program's writers of events with the model's, event by event.
+//!
+//! The other program is started once. For each event it is sent its kind, a byte; its fields, in the order of the writers' parameters
+//! in host/c/rev.h; and a 4-byte length and the bytes of the buffer to lend. It answers, before it reads on, with the 4 bytes that the
+//! writer gave back; the bytes of the buffer after the call; and a 4-byte length and the dump of the record, which is empty where none
+//! was written. All numbers are little-endian. It ends when its input does.
+
+mod classes;
+
+use crate::generate::lent::lent;
+use crate::server::{end_progress, progress, Server};
+use crate::write::{Event, Number};
+use crate::{undump, Trouble};
+use classes::{Case, Classes};
+use std::io::{Read, Write};
+
+/// No dump of a record is so long.
+const LONGEST_DUMP: u32 = 4096;
+
+/// Compares `count` events. The first that differs is written to `keep`; gives whether there was none, and every class was reached.
+pub fn compare(count: u64, seed: u64, keep: &str, command: &[String]) -> Result<bool, Trouble> {
+    let mut server = Server::start(command)?;
+    let mut classes = Classes::new();
+    for ordinal in 0..count {
+        let (event, before) = lent(seed, ordinal);
+        let expected = event.write(before.len());
+        let sent = server.input.write_all(&question(&event, &before));
+        let answer = match sent.and_then(|()| receive(&mut server.output, before.len())) {
+            Ok(answer) => answer,
+            Err(error) => return Err(server.lost(&format!("event {ordinal} of seed {seed}, {event:?}"), error)),
+        };
+        if let Err(difference) = judge(&event, &before, &answer) {
+            let text = format!("{event:?}\nlent {}\n{difference}\n", hex(&before));
+            std::fs::write(keep, &text)?;
+            end_progress();
+            print!("event {ordinal} of seed {seed} differs; it is kept in {keep}\n{text}");
+            server.stop()?;
+            return Ok(false);
+        }
+        classes.count(&Case { event, room: before.len(), given: expected.map(|record| record.len()) });
+        progress(ordinal + 1, count, "events");
+    }
+    server.end()?;
+    end_progress();
+    print!("{}", classes.report());
+    println!("{count} events, 0 differences");
+    Ok(classes.missing().is_empty())
+}
+
+/// What is sent for an event.
+fn question(event: &Event, before: &[u8]) -> Vec<u8> {
+    let number = |number: Number| [vec![number.count], number.value.to_le_bytes().to_vec()].concat();
+    let fields = match *event {
+        Event::Opening { role, flags, own } => [vec![role, flags], number(own)].concat(),
+        Event::Request { request, called } => [vec![request], number(called)].concat(),
+        Event::Message(message) => [
+            vec![message.message, message.cause, message.component, message.item, message.parts],
+            number(message.calling),
+            number(message.called),
+            message.duration.to_le_bytes().to_vec(),
+        ]
+        .concat(),
+        Event::Access { told, error } => vec![told, error],
+        Event::Expiry => vec![],
+        Event::Time { seconds } => seconds.to_le_bytes().to_vec(),
+    };
+    [vec![event.kind()], fields, (before.len() as u32).to_le_bytes().to_vec(), before.to_vec()].concat()
+}
+
+/// What another writer did.
+#[derive(Clone, PartialEq, Eq, Debug)]
+struct Answer {
+    given: u32,
+    after: Vec<u8>,
+    dump: Vec<u8>,
+}
+
+fn receive(input: &mut impl Read, room: usize) -> std::io::Result<Answer> {
+    let given = four_bytes(input)?;
+    let mut after = vec![0; room];
+    input.read_exact(&mut after)?;
+    let length = four_bytes(input)?;
+    if length > LONGEST_DUMP {
+        return Err(std::io::ErrorKind::InvalidData.into());
+    }
+    let mut dump = vec![0; length as usize];
+    input.read_exact(&mut dump)?;
+    Ok(Answer { given, after, dump })
+}
+
+fn four_bytes(input: &mut impl Read) -> std::io::Result<u32> {
+    let mut bytes = [0; 4];
+    input.read_exact(&mut bytes)?;
+    Ok(u32::from_le_bytes(bytes))
+}
+
+/// Whether the answer is the model's: the number, every byte of the buffer, and a record that is read back as the event. If not, what
+/// differs.
+fn judge(event: &Event, before: &[u8], answer: &Answer) -> Result<(), String> {
+    let (given, record) = match event.write(before.len()) {
+        Ok(record) => (0, record),
+        Err(refusal) => (refusal as u32, vec![]),
+    };
+    let after = [&record, &before[record.len()..]].concat();
+    if answer.given != given {
+        return Err(format!("expected number {given}, got {}", answer.given));
+    }
+    if answer.after != after {
+        return Err(format!("expected {}\ngot      {}", hex(&after), hex(&answer.after)));
+    }
+    if record.is_empty() {
+        return if answer.dump.is_empty() { Ok(()) } else { Err("a record that was refused is dumped".into()) };
+    }
+    let dump = String::from_utf8_lossy(&answer.dump);
+    match undump::only_record(&dump) {
+        Some(bytes) if Event::of_record(&bytes) == *event => Ok(()),
+        _ => Err(format!("it is not read back: {dump:?}")),
+    }
+}
+
+fn hex(bytes: &[u8]) -> String {
+    bytes.iter().map(|byte| format!("{byte:02x}")).collect()
+}
+
+#[cfg(test)]
+mod tests {
+    use super::*;
+    use crate::write::Message;
+
+    const TIME: Event = Event::Time { seconds: 60 };
+
+    fn answer(given: u32, after: &[u8], dump: &str) -> Answer {
+        Answer { given, after: after.to_vec(), dump: dump.as_bytes().to_vec() }
+    }
+
+    #[test]
+    fn questions() {
+        let number = |value| Number { count: 1, value };
+        let message = Event::Message(Message {
+            message: 1,
+            cause: 2,
+            component: 3,
+            item: 4,
+            parts: 5,
+            calling: number(6),
+            called: number(7),
+            duration: 0x01020304,
+        });
+        let fields =
+            [[1, 2, 3, 4, 5].as_slice(), &[1, 6, 0, 0, 0, 0, 0, 0, 0], &[1, 7, 0, 0, 0, 0, 0, 0, 0], &[4, 3, 2, 1]];
+        assert_eq!(question(&message, &[9]), [&[3], fields.concat().as_slice(), &[1, 0, 0, 0, 9]].concat());
+        assert_eq!(question(&Event::Expiry, &[]), [5, 0, 0, 0, 0]);
+        assert_eq!(question(&TIME, &[8, 9]), [6, 60, 0, 0, 0, 2, 0, 0, 0, 8, 9]);
+    }
+
+    #[test]
+    fn answers_are_received() {
+        let bytes = [0, 0, 0, 0, 7, 8, 2, 0, 0, 0, b'O', b'K'];
+        assert_eq!(receive(&mut bytes.as_slice(), 2).ok(), Some(answer(0, &[7, 8], "OK")));
+        assert!(receive(&mut bytes[..11].as_ref(), 2).is_err());
+        assert!(receive(&mut [0, 0, 0, 0, 255, 255, 255, 255].as_slice(), 0).is_err());
+    }
+
+    /// One wrong thing each: the number, a byte of the record, a byte past it, a byte on a refusal, the words.
+    #[test]
+    fn answers_are_judged() {
+        let (lent, dump) = ([1, 2, 3, 4, 5, 6, 7, 8, 9], "RECORDS 1\n1 0 TIME 60\n");
+        let written = [6, 0, 6, 0, 60, 0, 0, 0, 9];
+        assert_eq!(judge(&TIME, &lent, &answer(0, &written, dump)), Ok(()));
+        assert_eq!(judge(&TIME, &lent[..7], &answer(8, &lent[..7], "")), Ok(()));
+        assert_eq!(judge(&Event::Time { seconds: 86_401 }, &lent[..7], &answer(3, &lent[..7], "")), Ok(()));
+        for wrong in [
+            answer(8, &lent, ""),
+            answer(256, &written, dump),
+            answer(0, &[5, 0, 6, 0, 60, 0, 0, 0, 9], dump),
+            answer(0, &[6, 0, 6, 0, 60, 0, 0, 0, 0], dump),
+            answer(0, &written, ""),
+            answer(0, &written, "RECORDS 1\n1 0 TIME 61\n"),
+            answer(0, &written, "RECORDS 1\n1 0 TIME 60"),
+        ] {
+            assert!(judge(&TIME, &lent, &wrong).is_err(), "{wrong:?}");
+        }
+        assert!(judge(&TIME, &lent[..7], &answer(8, &written[..7], "")).is_err());
+        assert!(judge(&TIME, &lent[..7], &answer(8, &lent[..7], dump)).is_err());
+        assert!(judge(&Event::Time { seconds: 86_401 }, &lent[..7], &answer(8, &lent[..7], "")).is_err());
+    }
+}

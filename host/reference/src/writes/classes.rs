@@ -1,0 +1,308 @@
+//! Counts how often each class of events and rooms was reached.
+
+use crate::write::{part, Event, Message, Number, Refusal};
+use std::fmt::Write;
+
+/// An event, the room that it was lent, and what the model gave: the record's length or a refusal.
+pub struct Case {
+    pub event: Event,
+    pub room: usize,
+    pub given: Result<usize, Refusal>,
+}
+
+impl Case {
+    fn written(&self) -> bool {
+        self.given.is_ok()
+    }
+
+    fn refused(&self, refusal: Refusal) -> bool {
+        self.given == Err(refusal)
+    }
+
+    /// Whether this field, and no other, is out of its range.
+    fn only_bad(&self, field: &str) -> bool {
+        self.event.bad_fields() == [field]
+    }
+
+    fn message(&self) -> Option<&Message> {
+        match &self.event {
+            Event::Message(message) => Some(message),
+            _ => None,
+        }
+    }
+
+    /// The numbers that are wanted in the event.
+    fn wanted(&self) -> Vec<Number> {
+        match &self.event {
+            Event::Opening { own, .. } => vec![*own],
+            Event::Request { request: 0..=1, called } => vec![*called],
+            Event::Message(message) => [(part::CALLING, message.calling), (part::CALLED, message.called)]
+                .into_iter()
+                .filter(|(part, _)| message.names(*part))
+                .map(|(_, number)| number)
+                .collect(),
+            _ => vec![],
+        }
+    }
+}
+
+const KINDS: [&str; 6] = ["opening", "request", "message", "access", "expiry", "time"];
+
+/// The fields that can be out of range, by the number of the kind.
+const FIELDS: [(u8, &str); 16] = [
+    (1, "role"),
+    (1, "flags"),
+    (1, "number"),
+    (2, "request"),
+    (2, "number"),
+    (3, "message"),
+    (3, "cause"),
+    (3, "component"),
+    (3, "item"),
+    (3, "parts"),
+    (3, "calling number"),
+    (3, "called number"),
+    (3, "duration"),
+    (4, "told"),
+    (4, "error"),
+    (6, "seconds"),
+];
+
+type Test = Box<dyn Fn(&Case) -> bool>;
+
+struct Class {
+    name: String,
+    holds: Test,
+    count: u64,
+}
+
+pub struct Classes(Vec<Class>);
+
+impl Classes {
+    pub fn new() -> Classes {
+        let mut classes = Classes(Vec::new());
+        classes.answers();
+        classes.bad_fields();
+        classes.values();
+        classes.bounds();
+        classes.unnamed();
+        classes
+    }
+
+    fn add(&mut self, name: String, holds: impl Fn(&Case) -> bool + 'static) {
+        self.0.push(Class { name, holds: Box::new(holds), count: 0 });
+    }
+
+    /// Each kind with each number and each room; an expiry has no field that could be bad.
+    fn answers(&mut self) {
+        for (kind, name) in (1..).zip(KINDS) {
+            let mut add = |what: &str, holds: fn(&Case) -> bool| {
+                self.add(format!("{name}: {what}"), move |case| case.event.kind() == kind && holds(case));
+            };
+            add("0", Case::written);
+            add("0, the exact room", |case| case.given == Ok(case.room));
+            add("0, more room", |case| case.given.is_ok_and(|length| length < case.room));
+            add("8", |case| case.refused(Refusal::NoRoom));
+            add("8, no room", |case| case.refused(Refusal::NoRoom) && case.room == 0);
+            add("8, a byte too few", |case| case.refused(Refusal::NoRoom) && case.room + 1 == case.event.size());
+            if name != "expiry" {
+                add("3", |case| case.refused(Refusal::BadField));
+                add("3, no room", |case| case.refused(Refusal::BadField) && case.room == 0);
+                add("3, a byte too few", |case| case.refused(Refusal::BadField) && case.room + 1 == case.event.size());
+                add("3, room", |case| case.refused(Refusal::BadField) && case.room >= case.event.size());
+            }
+        }
+    }
+
+    fn bad_fields(&mut self) {
+        for (kind, field) in FIELDS {
+            let name = KINDS[usize::from(kind) - 1];
+            self.add(format!("{name}: {field} alone bad"), move |case| {
+                case.event.kind() == kind && case.only_bad(field)
+            });
+        }
+    }
+
+    /// Each value that has a name, written.
+    fn values(&mut self) {
+        for value in 0..2 {
+            self.written(
+                format!("role {value}"),
+                move |event| matches!(event, Event::Opening { role, .. } if *role == value),
+            );
+        }
+        for flag in [1, 2, 4, 8, 16] {
+            self.written(
+                format!("flag {flag}"),
+                move |event| matches!(event, Event::Opening { flags, .. } if flags & flag != 0),
+            );
+        }
+        for value in 0..4 {
+            self.written(
+                format!("request {value}"),
+                move |event| matches!(event, Event::Request { request, .. } if *request == value),
+            );
+        }
+        for value in 1..6 {
+            self.message(format!("message {value}"), move |message| message.message == value);
+            self.written(
+                format!("told {value}"),
+                move |event| matches!(event, Event::Access { told, .. } if *told == value),
+            );
+        }
+        for (component, item) in
+            [(0, 0), (1, 1), (1, 2), (1, 3), (2, 1), (2, 2), (2, 3), (3, 0), (3, 12), (3, 255), (4, 0)]
+        {
+            self.message(format!("component {component} with {item}"), move |message| {
+                (message.component, message.item) == (component, item)
+            });
+        }
+        for part in [1, 2, 4, 8] {
+            self.message(format!("part {part}"), move |message| message.names(part));
+        }
+        for values in 0..8 {
+            self.message(format!("parts {} and none else with bytes", values << 4), move |message| {
+                message.parts >> 4 == values
+            });
+        }
+        for value in [0, 4, 12, 255] {
+            self.written(format!("access error {value}"), move |event| {
+                *event == Event::Access { told: 2, error: value }
+            });
+        }
+    }
+
+    fn written(&mut self, name: String, holds: impl Fn(&Event) -> bool + 'static) {
+        self.add(name, move |case| case.written() && holds(&case.event));
+    }
+
+    fn message(&mut self, name: String, holds: impl Fn(&Message) -> bool + 'static) {
+        self.add(name, move |case| case.written() && case.message().is_some_and(&holds));
+    }
+
+    /// The last value in range is written, and the first out of it is the event's only bad field.
+    fn bounds(&mut self) {
+        self.written("flags 31".into(), |event| matches!(event, Event::Opening { flags: 31, .. }));
+        self.add("flags 32 and more".into(), |case| {
+            case.only_bad("flags") && matches!(case.event, Event::Opening { flags: 32..=63, .. })
+        });
+        self.message("cause 127".into(), |message| message.cause == 127);
+        self.add("cause 128".into(), |case| case.only_bad("cause") && case.message().is_some_and(|m| m.cause == 128));
+        self.add("component 5".into(), |case| {
+            case.only_bad("component") && case.message().is_some_and(|m| m.component == 5)
+        });
+        self.add("operation 0".into(), |case| {
+            case.only_bad("item") && case.message().is_some_and(|m| matches!(m.component, 1 | 2) && m.item == 0)
+        });
+        self.add("operation 4".into(), |case| {
+            case.only_bad("item") && case.message().is_some_and(|m| matches!(m.component, 1 | 2) && m.item == 4)
+        });
+        self.add("part 4 without 2".into(), |case| {
+            case.only_bad("parts") && case.message().is_some_and(|m| m.parts & 134 == 4)
+        });
+        self.add("part 128".into(), |case| {
+            case.only_bad("parts") && case.message().is_some_and(|m| m.names(128) && m.parts & 6 != 4)
+        });
+        self.message("the longest duration".into(), |message| message.duration == u32::MAX);
+        for seconds in [0, 86_400] {
+            self.written(format!("seconds {seconds}"), move |event| *event == Event::Time { seconds });
+        }
+        for seconds in [86_401, u32::MAX] {
+            self.add(format!("seconds {seconds}"), move |case| case.event == Event::Time { seconds });
+        }
+        for digits in 1..=15 {
+            let nines = 10_u64.pow(digits) - 1;
+            let most = Number { count: digits as u8, value: nines };
+            let over = Number { count: digits as u8, value: nines + 1 };
+            self.add(format!("{digits} nines"), move |case| case.written() && case.wanted().contains(&most));
+            self.add(format!("ten to the {digits}"), move |case| bad_number(case) && case.wanted().contains(&over));
+        }
+        for count in [0, 16, 255] {
+            self.add(format!("a count of {count}"), move |case| {
+                bad_number(case) && case.wanted().iter().any(|number| number.count == count)
+            });
+        }
+        self.add("a wanted number is absent".into(), |case| {
+            bad_number(case) && case.wanted().contains(&Number::ABSENT)
+        });
+    }
+
+    /// A field that nothing names, its least value among them.
+    fn unnamed(&mut self) {
+        for (name, number) in [("count", Number { count: 1, value: 0 }), ("value", Number { count: 0, value: 1 })] {
+            self.add(format!("a {name} in a request B or C"), move |case| {
+                case.only_bad("number")
+                    && matches!(case.event, Event::Request { request: 2..=3, called } if called == number)
+            });
+            self.add(format!("a {name} of a calling number not named"), move |case| {
+                case.only_bad("calling number")
+                    && case.message().is_some_and(|m| !m.names(part::CALLING) && m.calling == number)
+            });
+            self.add(format!("a {name} of a called number not named"), move |case| {
+                case.only_bad("called number")
+                    && case.message().is_some_and(|m| !m.names(part::CALLED) && m.called == number)
+            });
+        }
+        self.add("a duration of 1 not named".into(), |case| {
+            case.only_bad("duration") && case.message().is_some_and(|m| m.duration == 1)
+        });
+    }
+
+    pub fn count(&mut self, case: &Case) {
+        for class in &mut self.0 {
+            class.count += u64::from((class.holds)(case));
+        }
+    }
+
+    /// What was never reached.
+    pub fn missing(&self) -> Vec<&str> {
+        self.0.iter().filter(|class| class.count == 0).map(|class| class.name.as_str()).collect()
+    }
+
+    pub fn report(&self) -> String {
+        let mut text = String::new();
+        for class in &self.0 {
+            let _ = writeln!(text, "{}: {}", class.name, class.count);
+        }
+        let least = self.0.iter().min_by_key(|class| class.count).expect("there are classes");
+        let _ = writeln!(text, "least reached of {} classes: {}, {} times", self.0.len(), least.name, least.count);
+        let missing = self.missing();
+        if !missing.is_empty() {
+            let _ = writeln!(text, "not reached: {}", missing.join(", "));
+        }
+        text
+    }
+}
+
+/// A number, and nothing else, is out of its range.
+fn bad_number(case: &Case) -> bool {
+    matches!(case.event.bad_fields()[..], ["number" | "calling number" | "called number"])
+}
+
+#[cfg(test)]
+mod tests {
+    use super::*;
+    use crate::generate::lent::lent;
+
+    fn classes_of(count: u64) -> Classes {
+        let mut classes = Classes::new();
+        for ordinal in 0..count {
+            let (event, before) = lent(7, ordinal);
+            let given = event.write(before.len()).map(|record| record.len());
+            classes.count(&Case { event, room: before.len(), given });
+        }
+        classes
+    }
+
+    #[test]
+    fn every_class_is_reached() {
+        assert_eq!(classes_of(50_000).missing(), Vec::<&str>::new());
+    }
+
+    #[test]
+    fn what_is_missing_is_told() {
+        let classes = classes_of(10);
+        assert!(classes.missing().contains(&"a duration of 1 not named"));
+        assert!(classes.report().contains("\nnot reached: "));
+    }
+}

@@ -1,0 +1,43 @@
+#!/bin/sh
+# writes.sh [--count N] [--seed S]: generated events of all kinds (100,000 of seed 1 where it is not said), in range and out of it, and
+# buffers of all sizes, written by the proved library, by the bench's plain C and by the independent model in host/reference: the numbers
+# and every byte of the buffers are compared, and what was written is read back by the dump. It fails too where a class of events was not
+# reached, as a small N does not reach them all. On a terminal a line tells how far it is. Needs a C compiler and cargo.
+set -eu
+cd "$(dirname "$0")/.."
+who=writes.sh count=100000 seed=1
+# shellcheck source=tests/generated.inc
+. tests/generated.inc
+if [ "$(uname -m)" = x86_64 ]; then compiler=cc; else compiler=clang; fi
+for tool in $compiler cargo; do
+    if ! command -v "$tool" >/dev/null; then
+        echo "writes: skipped, there is no $tool here"
+        exit 0
+    fi
+done
+sh host/c/build
+. host/kit.sh
+cargo build --quiet --release --offline --manifest-path host/reference/Cargo.toml --target-dir target/reference
+# the plain writers' records are read back by the library's dump, as the others are
+build_x86_64 target/host/plain-writes -DPLAIN -Ibench host/c/writes.c bench/plain.c target/staticlib/librev.a
+cat >target/host/serve-writes <<'SERVE'
+#!/bin/sh
+. host/kit.sh
+run_x86_64 "$@"
+SERVE
+
+# compare NAME PROGRAM: what it writes with what the model writes
+compare() {
+    status=0
+    target/reference/release/reference writes --count "$count" --seed "$seed" --keep target/host/difference.txt -- \
+        sh target/host/serve-writes "$2" >target/host/writes.log || status=$?
+    if [ $status -ne 0 ]; then
+        cat target/host/writes.log
+        echo "writes: $1: a difference, no answer, or a class not reached" >&2
+        exit $status
+    fi
+    tail -n 1 target/host/writes.log | sed "s/^/writes: $1: /"
+}
+compare "the proved writers" target/host/writes
+compare "the plain writers" target/host/plain-writes
+tail -n 2 target/host/writes.log | sed -n 's/^least/writes: least/p'
