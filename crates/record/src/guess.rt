@@ -17,7 +17,7 @@ use rows::Event;
 use rows::Message;
 use rows::Number;
 
-// No line has as many words.
+// Past the last word: a line has at most 18.
 const NOWHERE: usize = 18;
 
 fn counted(w: &[u8]) -> Number {

@@ -10,6 +10,7 @@ use crate::pieces::start;
 use crate::pieces::word;
 use files::Written;
 
+// What comes of a line: 0, 3 and 8 are the numbers that document 01 gives back; the others are for what is no event.
 pub(crate) const DONE: u8 = 0;
 
 pub(crate) const UNKNOWN: u8 = 1;
