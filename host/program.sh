@@ -1,17 +1,21 @@
 # shellcheck shell=sh
-# program.sh, to be sourced by a script at the root: prints what a program of this repository makes of event files.
+# program.sh, to be sourced by a script at the root: prints what a program of this repository makes of files.
 #
-#   run_program NAME WHAT [WORDS..]     WHAT: what it prints, for the help; WORDS: the script's own
+#   run_program NAME WHAT [WORDS..]     WHAT: what it does, for the help; WORDS: the script's own
+#
+# A script may set, after it has sourced this: longest, the bytes that a file may have; and single=yes, for a program that takes one file,
+# and whose answer is bytes and not a text: it tells a refusal on standard error and has no answer then.
 #
 # A program of the kit has no exit status, and does not tell that it could not read or write. So the script reads the file, keeps the
 # program's answer and copies it to standard output: each of these is seen to fail, and told on standard error.
 # The status is 0; or 2 where a file could not be read, an answer not be written, the program not be built or run. A file that the program
-# refuses has an answer, which says so.
+# refuses has an answer, which says so, and the status is 0; or, of a single program, there is no answer and the status is 1.
 root=$(dirname "$(readlink -f "$0")")
 # shellcheck source=host/kit.sh
 . "$root/host/kit.sh"
 
 longest=65536 # bytes of an event file (docs/FORMAT.md)
+single=
 
 run_program() {
     name=$1 what=$2
@@ -33,32 +37,33 @@ run_program() {
     -?*) stop "$1 is no option: $name --help says which there are" ;;
     esac
     [ $# -gt 0 ] || set -- -
+    [ -z "$single" ] || [ $# -eq 1 ] || stop "one file alone: $name --help says more"
     program=$root/target/bin/$name
     room=$(mktemp -d 2>/dev/null) || stop "there is no room for temporary files"
     trap 'rm -rf "$room"' EXIT
     trap 'exit 129' HUP
     trap 'exit 130' INT
     trap 'exit 143' TERM
-    several='' before='' status=0
+    several='' before='' status=0 refused=
     [ $# -eq 1 ] || several=yes
     for file do
         if answer "$file"; then
             under_its_name | copy || exit
             before=yes
         else
-            status=2
+            status=${refused:-2}
         fi
     done
-    exit $status
+    exit "$status"
 }
 
 usage() {
+    echo "usage: $name [FILE]$([ -n "$single" ] || echo ..)"
+    echo
+    echo "$what"
+    echo "Without FILE, or where FILE is -, it reads standard input."
+    [ -n "$single" ] || echo "Of several files each stands under a line with its name: ==> FILE <=="
     cat <<END
-usage: $name [FILE]..
-
-For each event file it prints $what.
-Without FILE, or where FILE is -, it reads standard input.
-Of several files each stands under a line with its name: ==> FILE <==
 
   -h, --help    print this
   --version     print the version, and the kit that it is for
@@ -99,7 +104,7 @@ build() {
     done
 }
 
-# answer FILE: leaves the program's answer in $room/answer. Fails where the file cannot be read.
+# answer FILE: leaves the program's answer in $room/answer. Fails where the file cannot be read, or is refused.
 answer() {
     shown=$1
     if [ "$1" = - ]; then
@@ -127,9 +132,31 @@ answer() {
         command -v rt >/dev/null || stop "the program is x86-64, and the Rattle kit, whose emulator runs it here, is not on the path"
         find_toolchain || stop "the kit has no emulator for this machine"
     fi
-    # the status is that of cat, which sees whether all was written
+    if [ -n "$single" ]; then
+        take_bytes
+    else
+        take_text
+    fi
+}
+
+# The answer, which is never empty. The status is that of cat, which sees whether all was written.
+take_text() {
     run_x86_64 "$program" <"$room/file" | cat >"$room/answer" || stop "temporary files cannot be written"
     [ -s "$room/answer" ] || stop "$program gives no answer"
+}
+
+# The answer, which may be empty. Fails, with the status to give in $refused, where the program told something: a refusal. What it did not
+# say itself tells that it was not run to its end.
+take_bytes() {
+    told=$({ { run_x86_64 "$program" <"$room/file" || echo "it ends with $?" >&2; } | cat >"$room/answer"; } 2>&1) ||
+        stop "temporary files cannot be written"
+    case $told in
+    '') return ;;
+    "$name: "*) echo "$told" >&2 ;;
+    *) stop "$program does not run: $told" ;;
+    esac
+    refused=1
+    return 1
 }
 
 # The answer, and where there are several files before it a line with the file's name, as head has it.

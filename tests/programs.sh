@@ -1,6 +1,6 @@
 #!/bin/sh
-# programs.sh: ./listing and ./dump as a user meets them: options, several files, what cannot be read or written, the first run. What a
-# program answers to a file is not looked at here: tests/cases.sh and tests/dump.sh do that.
+# programs.sh: ./listing, ./dump and ./record as a user meets them: options, several files, what cannot be read or written, the first run.
+# What a program answers to a file is not looked at here: tests/cases.sh, tests/dump.sh and tests/record.sh do that.
 set -eu
 cd "$(dirname "$0")/.."
 # shellcheck source=host/kit.sh
@@ -8,7 +8,7 @@ cd "$(dirname "$0")/.."
 here=$PWD
 room=$(mktemp -d)
 trap 'rm -rf "$room"' EXIT
-file=$here/examples/room-pays.rev other=$here/examples/cut-short.rev
+other=$here/examples/cut-short.rev
 right=0 wrong=0
 : >"$room/wanted"
 
@@ -37,9 +37,46 @@ try() {
     : >"$room/wanted"
 }
 
+# What a program does that prints a text for each of several files.
+with_several() {
+    printf 'REFUSED 8\n' >"$room/wanted"
+    try "a file without an end" 0 "" "./$name" /dev/zero
+    { echo "==> $file <==" && answer "$file" && echo && echo "==> $other <==" && answer "$other"; } >"$room/wanted"
+    try "two files" 0 "" "./$name" "$file" "$other"
+    { echo "==> $file <==" && answer "$file" && echo && echo "==> standard input <==" && answer "$other"; } >"$room/wanted"
+    try "files that are not there, and standard input" 2 "$name: none: no such file
+$name: tests: is a folder" sh -c "./$name none '$file' tests - <'$other'"
+    printf '%s\n' "$(answer "$file" | head -n 1)" >"$room/wanted"
+    try "standard output that nobody reads to its end" 0 "" sh -c "./$name '$file' '$file' '$file' | sed -n '2{p;q;}'"
+}
+
+# What a program does that takes one file, and may refuse it.
+with_one() {
+    try "a file without an end" 1 "$name: REFUSED 8: the text has more than 1,048,576 bytes" "./$name" /dev/zero
+    try "a file that is refused" 1 "$name: line 1: not known: no record has these words" "./$name" "$other"
+    try "standard input that is refused" 1 "$name: line 1: not known: no record has these words" sh -c "./$name <'$other'"
+    try "two files" 2 "$name: one file alone: $name --help says more" "./$name" "$file" "$file"
+    try "standard input and a file" 2 "$name: one file alone: $name --help says more" "./$name" - "$file"
+    answer "$file" | head -c 4 >"$room/wanted"
+    try "standard output that nobody reads to its end" 0 "" sh -c "./$name '$file' | head -c 4"
+    # a program that fails is none that refused, nor one that wrote what it has so far
+    copy="$room/a broken copy"
+    mkdir -p "$copy/host" "$copy/target/bin"
+    cp "$name" "$copy"
+    cp host/*.sh "$copy/host"
+    printf '#!/bin/sh\nprintf abc\nexit 3\n' >"$copy/target/bin/$name"
+    chmod +x "$copy/target/bin/$name"
+    if [ "$(uname -m)" = x86_64 ]; then
+        try "a program that fails" 2 "$name: $copy/target/bin/$name does not run: it ends with 3" "$copy/$name" "$file"
+    fi
+    rm -r "$copy"
+}
+
 mkdir "$room/bin" "$room/tools"
 for tool in awk cat dirname grep head mkdir mktemp readlink rm sed sh uname; do ln -s "$(command -v $tool)" "$room/tools/$tool"; done
-for name in listing dump; do
+for name in listing dump record; do
+    file=$here/examples/room-pays.rev
+    [ $name != record ] || file=$here/examples/room-pays.words
     # builds it if it is missing
     "./$name" "$file" >/dev/null
 
@@ -55,14 +92,10 @@ for name in listing dump; do
     try "standard input as - after --" 0 "" sh -c "./$name -- - <'$file'"
     answer /dev/null >"$room/wanted"
     try "an empty file" 0 "" "./$name" /dev/null
-    printf 'REFUSED 8\n' >"$room/wanted"
-    try "a file without an end" 0 "" "./$name" /dev/zero
-
-    { echo "==> $file <==" && answer "$file" && echo && echo "==> $other <==" && answer "$other"; } >"$room/wanted"
-    try "two files" 0 "" "./$name" "$file" "$other"
-    { echo "==> $file <==" && answer "$file" && echo && echo "==> standard input <==" && answer "$other"; } >"$room/wanted"
-    try "files that are not there, and standard input" 2 "$name: none: no such file
-$name: tests: is a folder" sh -c "./$name none '$file' tests - <'$other'"
+    case $name in
+    record) with_one ;;
+    *) with_several ;;
+    esac
 
     ln -sf none "$room/link"
     try "no such file" 2 "$name: none: no such file" "./$name" none
@@ -82,8 +115,6 @@ $name: tests: is a folder" sh -c "./$name none '$file' tests - <'$other'"
     try "the help to a full standard output" 2 "$name: standard output cannot be written: No space left on device" \
         sh -c "./$name --help >/dev/full"
     try "no folder for temporary files" 2 "$name: there is no room for temporary files" env TMPDIR="$room/none" "./$name" "$file"
-    printf '%s\n' "$(answer "$file" | head -n 1)" >"$room/wanted"
-    try "standard output that nobody reads to its end" 0 "" sh -c "./$name '$file' '$file' '$file' | sed -n '2{p;q;}'"
     if command -v script >/dev/null; then
         { echo "$name: reading standard input, which is a terminal ($name --help says more)" && answer /dev/null; } >"$room/wanted"
         try "a terminal" 0 "" sh -c "timeout 60 script -qec ./$name /dev/null </dev/null | tr -d '\\r\\b' | sed 's/\\^D//'"

@@ -22,6 +22,7 @@ use Rattle.files.specs.Bodies.{readAt}
 use Rattle.files.specs.Dump.{dumpOf}
 use Rattle.files.specs.Listing.{listingOf}
 use Rattle.files.specs.Places.{placesOf}
+use Rattle.files.specs.Words.{Says}
 use Rattle.files.specs.Write.{numberWith, messageWith}
 use Rattle.files.proofs.Same.{Fitted, Opened, Moved, Wrote, Numbered}
 use Rattle.files.proofs.bodies.read_at as read-at
@@ -32,6 +33,7 @@ use Rattle.files.proofs.lent.next as next
 use Rattle.files.proofs.lent.open as opens
 use Rattle.files.proofs.listing.rev_listing as rev-listing
 use Rattle.files.proofs.places.count_records as count-records
+use Rattle.files.proofs.words.says as says
 use Rattle.files.proofs.write.rev_write_access as rev-write-access
 use Rattle.files.proofs.write.rev_write_expiry as rev-write-expiry
 use Rattle.files.proofs.write.rev_write_message as rev-write-message
@@ -133,3 +135,8 @@ module _ {M : Type 1} (𝓤 : URA M) (H : Heap 𝓤) (A : Atoms 𝓤) (mem : Mem
       rev-write-time.spec 𝓤 H A mem run κs a
       ≡ Promises rev-write-time.ended κs a (λ r last. Numbered (Time (a .0)) (now (a .1 .0)) r (now (last .1 .0)))
   rev-write-time-says κs a = refl
+
+  -- a .0 is the line, a .1 .0 the event
+  pub says-says : (κs : Lfts 1) (a : Args says.signature κs) →
+      says.spec 𝓤 H A mem run κs a ≡ Promises says.ended κs a (λ r last. Says (now (a .0)) (a .1 .0) r)
+  says-says κs a = refl

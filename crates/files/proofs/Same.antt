@@ -1,7 +1,8 @@
 -- Any two results that a contract of `files` allows are the same: a law for each form that is not already in the Same.antt of `text`
 -- (`same`: `read_at`, `found_at`, `take_at`, `left`, `count_records`; `put-same`: the writers).
 -- Assumes nothing.
-use mathlib.Core.Path.{_≡_, ap, _∙_}
+use mathlib.Core.Bool.{Bool, true, false}
+use mathlib.Core.Path.{_≡_, refl, sym, ap, _∙_}
 use mathlib.Core.List.{List}
 use Prim.Native.Nat.{ℕ}
 use denote.Ref.{RefT, now}
@@ -10,6 +11,7 @@ use Rattle.rows.specs.declared.Event.{Event}
 use Rattle.files.specs.Bodies.{readAt}
 use Rattle.files.specs.Fit.{answers, leaves}
 use Rattle.files.specs.Places.{placeAfter}
+use Rattle.files.specs.Words.{Says}
 use Rattle.files.specs.Write.{writtenOf, leftOf, numberOf}
 use Rattle.files.specs.declared.Read.{Read}
 use Rattle.files.specs.declared.Reader.{Reader}
@@ -64,3 +66,10 @@ wrote-same e old p q = (same (p .0) (q .0), same (p .1) (q .1))
 pub numbered-same : (e : Event) (old : List ℕ) {r r′ : ℕ} {new new′ : List ℕ} →
     Numbered e old r new → Numbered e old r′ new′ → (r ≡ r′) × (new ≡ new′)
 numbered-same e old p q = (same (p .0) (q .0), same (p .1) (q .1))
+
+-- What `says` says is `Says` (Words.antt). For one line and one event there is one answer.
+pub says-same : {line : List ℕ} {e : Event} (r r′ : Bool) → Says line e r → Says line e r′ → r ≡ r′
+says-same true true p q = refl
+says-same true false p q = sym (q .whole (p .right refl))
+says-same false true p q = p .whole (q .right refl)
+says-same false false p q = refl

@@ -1,7 +1,9 @@
 -- What a record says, in words, for the dump. Each field has its word, or its number where it is out of its range, so that all of them
 -- can be read off the line (docs/FORMAT.md has the grammar).
 -- Assumes nothing.
+use mathlib.Core.Bool.{Bool, true}
 use mathlib.Core.List.{List, [], _++_}
+use mathlib.Core.Path.{_≡_}
 use Prim.Native.Nat.{ℕ, _%_}
 use Rattle.text.specs.Choose.{ifLt, ifEq, ifSo}
 use Rattle.text.specs.Text.{ascii, decimalBy, numbered}
@@ -146,3 +148,10 @@ eventWords (Received m) = messageWords m
 eventWords (FromAccess item error) = accessWords item error
 eventWords Expiry = ascii " EXPIRY"
 eventWords (Time seconds) = numbered (ascii " TIME ") seconds
+
+-- ---- a line that says an event
+
+-- r: whether a line is an event's words, without the blank that they begin with
+pub record Says (line : List ℕ) (e : Event) (r : Bool) : Type 0 where
+  pub right : r ≡ true → ascii " " ++ line ≡ eventWords e
+  pub whole : ascii " " ++ line ≡ eventWords e → r ≡ true

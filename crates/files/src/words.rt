@@ -1,12 +1,15 @@
 // What a record says, in words, for the dump: each field has its word, or its number where it is out of its range.
+ghost use mathlib.Core.Bool.{true};
+ghost use mathlib.Core.List.{_++_};
+ghost use mathlib.Core.Path.{_≡_};
 ghost use Prim.Native.Nat.{_+_, _≤_, _<_, _^_};
 ghost use lib.ListN.{length};
-ghost use Rattle.text.specs.Text.{Put};
+ghost use Rattle.text.specs.Text.{Put, ascii};
 ghost use Rattle.files.specs.Messages.{textIf};
 ghost use Rattle.files.specs.Words.{codeWord, digitsWord, valueText, countedWord, numberWord, roleWord, commaText, flagText};
 ghost use Rattle.files.specs.Words.{flagsText, flagsWord, openingWords, askedWord, askWords, nameWord, operationWord};
 ghost use Rattle.files.specs.Words.{withOperationWord, unlessZero, rejectWords, unknownWords, componentWords, withNumber};
-ghost use Rattle.files.specs.Words.{valuesWords, messageWords, toldWord, accessWords, eventWords};
+ghost use Rattle.files.specs.Words.{valuesWords, messageWords, toldWord, accessWords, eventWords, Says};
 use crate::messages::put_duration_if;
 use crate::messages::put_if;
 use crate::messages::put_operation;
@@ -373,4 +376,44 @@ pub(crate) fn put_event(out: &mut [u8], at: usize, e: Event) -> usize
         Event::Expiry => text::put_word(out, at, b" EXPIRY"),
         Event::Time(seconds) => text::put_numbered(out, at, b" TIME ", seconds),
     }
+}
+
+// Whether two texts are the same.
+fn same(a: &[u8], b: &[u8]) -> bool
+    ensures { λ r. ⌜ (r ≡ true → now (a .entry) ≡ now (b .entry)) × (now (a .entry) ≡ now (b .entry) → r ≡ true) ⌝ }
+{
+    if a.len() != b.len() {
+        return false;
+    }
+    let mut i = 0;
+    while i < a.len() {
+        if a[i] != b[i] {
+            return false;
+        }
+        i += 1;
+    }
+    true
+}
+
+// Whether words are a line with a blank before it.
+fn begins_line(words: &[u8], line: &[u8]) -> bool
+    ensures { λ r. ⌜ (r ≡ true → ascii " " ++ now (line .entry) ≡ now (words .entry))
+        × (ascii " " ++ now (line .entry) ≡ now (words .entry) → r ≡ true) ⌝ }
+{
+    if words.len() == 0 {
+        return false;
+    }
+    if words[0] != b' ' {
+        return false;
+    }
+    same(&words[1..], line)
+}
+
+// Whether a line says an event, in its words, without the blank that they begin with.
+pub fn says(line: &[u8], e: Event) -> bool
+    ensures { λ r. ⌜ Says (now (line .entry)) e r ⌝ }
+{
+    let mut words = [0u8; 656];
+    let n = put_event(&mut words, 0, e);
+    begins_line(&words[..n], line)
 }
