@@ -14,16 +14,15 @@ use Rattle.text.specs.Choose.{ifEq, ifSo}
 use Rattle.text.proofs.Cases.{yes-so, no-so, yes-lt, no-lt}
 use Rattle.text.proofs.Laws.{put-none, put-in, put-after, put-as}
 use Rattle.rows.specs.Valid.{eventOk}
-use Rattle.rows.specs.Read.{absent}
 use Rattle.rows.specs.declared.Component.{Component}
-use Rattle.rows.specs.declared.Component.the-variants.{Absent}
 use Rattle.rows.specs.declared.Event.{Event}
 use Rattle.rows.specs.declared.Event.the-variants.{Opening, Ask, Received, FromAccess, Expiry, Time}
 use Rattle.rows.specs.declared.Message.{Message}
 use Rattle.rows.specs.declared.Number.{Number}
 use Rattle.files.specs.Bodies.{componentOf, codeOf, itemOf, numberValues, frontValues, carriedValues, kindOf, fieldsOf, valuesOf, headOf, recordOf}
 use Rattle.files.specs.Bytes.{leOf, part}
-use Rattle.files.specs.Fields.{numberFields, frontFields, carriedFields, messageFields, sizeOf, bytesOf}
+use Rattle.files.specs.Fields.{numberFields, openingFields, askFields, frontFields, carriedFields, messageFields, accessFields, expiryFields, timeFields}
+use Rattle.files.specs.Fields.{sizeOf, bytesOf}
 use Rattle.files.specs.Frames.{lengthWith, lengthOf}
 use Rattle.files.specs.Write.{writtenOf, leftOf, numberOf, messageWith}
 use Rattle.files.specs.declared.Written.{Written}
@@ -114,72 +113,56 @@ module _ (l : List ℕ) (i : ℕ) where
 
 -- ---- records
 
--- the byte that decides a record's length, where its kind is a message's
-abbrev pub partsOf : Event → ℕ
-partsOf (Opening role flags own) = 0
-partsOf (Ask item called) = 0
-partsOf (Received m) = m .parts
-partsOf (FromAccess item error) = 0
-partsOf Expiry = 0
-partsOf (Time seconds) = 0
-
--- the length that the frame wants is that of the event's fields
-length-as : (e : Event) → lengthOf (kindOf e) (partsOf e) ≡ lengthWith (fieldsOf e)
+-- a message's length, by its parts
+length-three : (parts : ℕ) → lengthOf 3 parts ≡ lengthWith (messageFields parts)
 unfolding lengthOf ifEq ifSo
-length-as (Opening role flags own) = refl
-length-as (Ask item called) = refl
-length-as (Received m) = refl
-length-as (FromAccess item error) = refl
-length-as Expiry = refl
-length-as (Time seconds) = refl
-
--- the sizes of the records whose length is fixed, and a message's
-pub sizes : (lengthOf 1 0 ≡ 13) × (lengthOf 2 0 ≡ 12) × (lengthOf 4 0 ≡ 4) × (lengthOf 5 0 ≡ 2) × (lengthOf 6 0 ≡ 6)
-unfolding lengthOf sizeOf ifEq ifSo
-sizes = (refl, refl, refl, refl, refl)
+length-three parts = refl
 
 pub message-length : (parts : ℕ) → lengthOf 3 parts ≡ 7 + 9 * part parts 16 + 9 * part parts 32 + 4 * part parts 64
 message-length parts = length-three parts ∙ sym (message-size parts)
-  where
-    length-three : (parts : ℕ) → lengthOf 3 parts ≡ lengthWith (messageFields parts)
-    length-three parts = length-as (Received (record { kind = 0; cause = 0; component = Absent 0; parts = parts; calling = absent; called = absent; duration = 0 }))
 
--- len: what was measured
-pub head-as : (l₀ l₁ l₂ : List ℕ) (i j len kind parts : ℕ) → len ≡ lengthOf kind parts → Put l₀ 0 (leOf 2 len) l₁ i → Put l₁ i (leOf 2 kind) l₂ j
-    → Put l₀ 0 (headOf (lengthOf kind parts) kind) l₂ j
+pub head-as : (l₀ l₁ l₂ : List ℕ) (i j len kind : ℕ) → Put l₀ 0 (leOf 2 len) l₁ i → Put l₁ i (leOf 2 kind) l₂ j → Put l₀ 0 (headOf len kind) l₂ j
 unfolding headOf
-head-as l₀ l₁ l₂ i j len kind parts e p q = put-after q (put-as (ap (leOf 2) e) p)
+head-as l₀ l₁ l₂ i j len kind p q = put-after q p
 
--- a head, and the body behind it
-put-record : {l₀ l₁ l₂ : List ℕ} {i j : ℕ} (e : Event) → Put l₀ 0 (headOf (lengthOf (kindOf e) (partsOf e)) (kindOf e)) l₁ i
+-- a head with the length of the event's fields, and the body behind it
+put-record : {l₀ l₁ l₂ : List ℕ} {i j : ℕ} (e : Event) → Put l₀ 0 (headOf (lengthWith (fieldsOf e)) (kindOf e)) l₁ i
     → Put l₁ i (bytesOf (fieldsOf e) (valuesOf e)) l₂ j → Put l₀ 0 (recordOf e) l₂ j
 unfolding recordOf
-put-record e p q = put-after q (put-as (ap (λ (n : ℕ). headOf n (kindOf e)) (length-as e)) p)
+put-record e p q = put-after q p
 
 module _ (l₀ l₁ : List ℕ) (i : ℕ) where
-  pub expiry-as : Put l₀ 0 (headOf (lengthOf 5 0) 5) l₁ i → Put l₀ 0 (recordOf Expiry) l₁ i
-  unfolding bytesOf
+  pub expiry-as : Put l₀ 0 (headOf 2 5) l₁ i → Put l₀ 0 (recordOf Expiry) l₁ i
+  unfolding sizeOf bytesOf
   expiry-as p = put-record Expiry p (put-none l₁ i)
 
   module _ (l₂ : List ℕ) (j : ℕ) where
-    pub time-as : (seconds : ℕ) → Put l₀ 0 (headOf (lengthOf 6 0) 6) l₁ i → Put l₁ i (leOf 4 seconds) l₂ j → Put l₀ 0 (recordOf (Time seconds)) l₂ j
+    pub time-as : (seconds : ℕ) → Put l₀ 0 (headOf 6 6) l₁ i → Put l₁ i (leOf 4 seconds) l₂ j → Put l₀ 0 (recordOf (Time seconds)) l₂ j
+    unfolding sizeOf
     time-as seconds p q = put-record (Time seconds) p (put-last 4 seconds q)
 
     module _ (l₃ : List ℕ) (k : ℕ) where
-      pub access-as : (item error : ℕ) → Put l₀ 0 (headOf (lengthOf 4 0) 4) l₁ i → Put l₁ i (leOf 1 item) l₂ j → Put l₂ j (leOf 1 error) l₃ k
+      pub access-as : (item error : ℕ) → Put l₀ 0 (headOf 4 4) l₁ i → Put l₁ i (leOf 1 item) l₂ j → Put l₂ j (leOf 1 error) l₃ k
           → Put l₀ 0 (recordOf (FromAccess item error)) l₃ k
+      unfolding sizeOf
       access-as item error p q r = put-record (FromAccess item error) p (put-field 1 item (1 ∷ []) (error ∷ []) q (put-last 1 error r))
 
-      pub ask-as : (item : ℕ) (called : Number) → Put l₀ 0 (headOf (lengthOf 2 0) 2) l₁ i → Put l₁ i (leOf 1 item) l₂ j
+      pub ask-as : (item : ℕ) (called : Number) → Put l₀ 0 (headOf 12 2) l₁ i → Put l₁ i (leOf 1 item) l₂ j
           → Put l₂ j (bytesOf (numberFields 1) (numberValues called)) l₃ k → Put l₀ 0 (recordOf (Ask item called)) l₃ k
+      unfolding sizeOf
       ask-as item called p q r = put-record (Ask item called) p (put-field 1 item (numberFields 1) (numberValues called) q r)
 
-      pub message-as : (m : Message) → Put l₀ 0 (headOf (lengthOf 3 (m .parts)) 3) l₁ i → Put l₁ i (bytesOf frontFields (frontValues m)) l₂ j
-          → Put l₂ j (bytesOf (carriedFields (m .parts)) (carriedValues m)) l₃ k → Put l₀ 0 (recordOf (Received m)) l₃ k
-      message-as m p q r = put-record (Received m) p (put-fields frontFields (carriedFields (m .parts)) (frontValues m) (carriedValues m) refl q r)
+      -- len: what was measured
+      pub message-as : (m : Message) (len : ℕ) → len ≡ lengthOf 3 (m .parts) → Put l₀ 0 (headOf len 3) l₁ i
+          → Put l₁ i (bytesOf frontFields (frontValues m)) l₂ j → Put l₂ j (bytesOf (carriedFields (m .parts)) (carriedValues m)) l₃ k
+          → Put l₀ 0 (recordOf (Received m)) l₃ k
+      message-as m len e p q r =
+          put-record (Received m) (put-as (ap (λ (n : ℕ). headOf n 3) (e ∙ length-three (m .parts))) p)
+          (put-fields frontFields (carriedFields (m .parts)) (frontValues m) (carriedValues m) refl q r)
 
-      pub opening-as : (l₄ : List ℕ) (n role flags : ℕ) (own : Number) → Put l₀ 0 (headOf (lengthOf 1 0) 1) l₁ i → Put l₁ i (leOf 1 role) l₂ j
+      pub opening-as : (l₄ : List ℕ) (n role flags : ℕ) (own : Number) → Put l₀ 0 (headOf 13 1) l₁ i → Put l₁ i (leOf 1 role) l₂ j
           → Put l₂ j (leOf 1 flags) l₃ k → Put l₃ k (bytesOf (numberFields 1) (numberValues own)) l₄ n → Put l₀ 0 (recordOf (Opening role flags own)) l₄ n
+      unfolding sizeOf
       opening-as l₄ n role flags own p q r s =
           put-record (Opening role flags own) p
           (put-field 1 role (1 ∷ numberFields 1) (flags ∷ numberValues own) q (put-field 1 flags (numberFields 1) (numberValues own) r s))
@@ -206,6 +189,15 @@ front-as m e f a b c d g =
     (put-field 1 code (1 ∷ 1 ∷ []) (item ∷ m .parts ∷ []) (put-as (ap (leOf 1) e) c)
     (put-field 1 item (1 ∷ []) (m .parts ∷ []) (put-as (ap (leOf 1) f) d) (put-last 1 (m .parts) g))))
 
+-- the sizes of whole records, with the two bytes of their length
+pub sizes : (15 ≡ 2 + lengthWith openingFields) × (14 ≡ 2 + lengthWith askFields) × (6 ≡ 2 + lengthWith accessFields) × (4 ≡ 2 + lengthWith expiryFields)
+    × (8 ≡ 2 + lengthWith timeFields)
+unfolding sizeOf
+sizes = (refl, refl, refl, refl, refl)
+
+pub message-sized : (n parts : ℕ) → n ≡ 2 + lengthOf 3 parts → n ≡ 2 + lengthWith (messageFields parts)
+message-sized n parts e = e ∙ ap (λ (k : ℕ). 2 + k) (length-three parts)
+
 -- ---- what is answered and left. t: whether the fields are in range; n: the record's length, as it was measured
 
 module _ (e : Event) (out : List ℕ) where
@@ -213,9 +205,9 @@ module _ (e : Event) (out : List ℕ) where
   unfolding writtenOf leftOf
   bad-as t g h = (no-so _ _ _ _ (sym g ∙ h) refl, no-so _ _ _ _ (sym g ∙ h) refl)
 
-  module _ (t : Bool) (n : ℕ) (g : t ≡ eventOk e) (h : t ≡ true) (l : n ≡ 2 + lengthOf (kindOf e) (partsOf e)) where
+  module _ (t : Bool) (n : ℕ) (g : t ≡ eventOk e) (h : t ≡ true) (l : n ≡ 2 + lengthWith (fieldsOf e)) where
     size : n ≡ length (recordOf e)
-    size = l ∙ ap (λ (k : ℕ). 2 + k) (length-as e) ∙ sym (record-length e)
+    size = l ∙ sym (record-length e)
 
     pub narrow-as : length out < n → (NoRoom ≡ writtenOf e out) × (out ≡ leftOf e out)
     unfolding writtenOf leftOf

@@ -133,20 +133,12 @@ fn item_of(component: Component) -> u8
 
 // ---- Records, where there is room
 
-// How many bytes a record has, with the two of its length.
-fn size_of(kind: u32, parts: u8) -> usize
-    ensures { λ r. ⌜ r ≡ 2 + lengthOf kind parts ⌝ }
-{
-    2 + length_of(kind, parts as u32) as usize
-}
-
-// The length and the kind.
-fn put_head(out: &mut [u8], kind: u32, parts: u8) -> usize
+// The length, which counts the bytes that follow it, and the kind.
+fn put_head(out: &mut [u8], len: u32, kind: u32) -> usize
     requires { ⌜ 4 ≤ length (now out) ⌝ }
-    ensures { λ r. ⌜ Put (now (out .entry)) 0 (headOf (lengthOf kind parts) kind) (now (out .exit)) r ⌝ }
+    ensures { λ r. ⌜ Put (now (out .entry)) 0 (headOf len kind) (now (out .exit)) r ⌝ }
     ensures { λ r. ⌜ r ≡ 4 ⌝ }
 {
-    let len = length_of(kind, parts as u32);
     let to = put_2(out, 0, len as u64);
     put_2(out, to, kind as u64)
 }
@@ -155,7 +147,7 @@ fn put_opening(out: &mut [u8], role: u8, flags: u8, own: Number) -> usize
     requires { ⌜ 15 ≤ length (now out) ⌝ }
     ensures { λ r. ⌜ Put (now (out .entry)) 0 (recordOf (Opening role flags own)) (now (out .exit)) r ⌝ }
 {
-    let mut to = put_head(out, 1, 0);
+    let mut to = put_head(out, 13, 1);
     to = put_1(out, to, role);
     to = put_1(out, to, flags);
     put_number(out, to, own)
@@ -165,7 +157,7 @@ fn put_ask(out: &mut [u8], item: u8, called: Number) -> usize
     requires { ⌜ 14 ≤ length (now out) ⌝ }
     ensures { λ r. ⌜ Put (now (out .entry)) 0 (recordOf (Ask item called)) (now (out .exit)) r ⌝ }
 {
-    let mut to = put_head(out, 2, 0);
+    let mut to = put_head(out, 12, 2);
     to = put_1(out, to, item);
     put_number(out, to, called)
 }
@@ -186,11 +178,19 @@ fn put_front(out: &mut [u8], at: usize, m: Message) -> usize
     put_1(out, to, m.parts)
 }
 
+// How many bytes its record has, with the two of its length.
+fn message_size(parts: u8) -> usize
+    ensures { λ r. ⌜ r ≡ 2 + lengthOf 3 parts ⌝ }
+{
+    2 + length_of(3, parts as u32) as usize
+}
+
 fn put_message(out: &mut [u8], m: Message) -> usize
     requires { ⌜ 2 + lengthOf 3 (m .parts) ≤ length (now out) ⌝ }
     ensures { λ r. ⌜ Put (now (out .entry)) 0 (recordOf (Received m)) (now (out .exit)) r ⌝ }
 {
-    let mut to = put_head(out, 3, m.parts);
+    let len = length_of(3, m.parts as u32);
+    let mut to = put_head(out, len, 3);
     to = put_front(out, to, m);
     put_carried(out, to, m)
 }
@@ -199,7 +199,7 @@ fn put_access(out: &mut [u8], item: u8, error: u8) -> usize
     requires { ⌜ 6 ≤ length (now out) ⌝ }
     ensures { λ r. ⌜ Put (now (out .entry)) 0 (recordOf (FromAccess item error)) (now (out .exit)) r ⌝ }
 {
-    let mut to = put_head(out, 4, 0);
+    let mut to = put_head(out, 4, 4);
     to = put_1(out, to, item);
     put_1(out, to, error)
 }
@@ -208,14 +208,14 @@ fn put_expiry(out: &mut [u8]) -> usize
     requires { ⌜ 4 ≤ length (now out) ⌝ }
     ensures { λ r. ⌜ Put (now (out .entry)) 0 (recordOf Expiry) (now (out .exit)) r ⌝ }
 {
-    put_head(out, 5, 0)
+    put_head(out, 2, 5)
 }
 
 fn put_time(out: &mut [u8], seconds: u32) -> usize
     requires { ⌜ 8 ≤ length (now out) ⌝ }
     ensures { λ r. ⌜ Put (now (out .entry)) 0 (recordOf (Time seconds)) (now (out .exit)) r ⌝ }
 {
-    let to = put_head(out, 6, 0);
+    let to = put_head(out, 6, 6);
     put_4(out, to, seconds as u64)
 }
 
@@ -226,7 +226,7 @@ fn write_opening(role: u8, flags: u8, own: Number, out: &mut [u8]) -> Written
         × (now (out .exit) ≡ leftOf (Opening role flags own) (now (out .entry))) ⌝ }
 {
     if rows::opening_ok(role, flags, own) {
-        if out.len() < size_of(1, 0) {
+        if out.len() < 15 {
             return Written::NoRoom;
         }
         return Written::Whole(put_opening(out, role, flags, own));
@@ -238,7 +238,7 @@ fn write_ask(item: u8, called: Number, out: &mut [u8]) -> Written
     ensures { λ w. ⌜ (w ≡ writtenOf (Ask item called) (now (out .entry))) × (now (out .exit) ≡ leftOf (Ask item called) (now (out .entry))) ⌝ }
 {
     if rows::ask_ok(item, called) {
-        if out.len() < size_of(2, 0) {
+        if out.len() < 14 {
             return Written::NoRoom;
         }
         return Written::Whole(put_ask(out, item, called));
@@ -250,7 +250,7 @@ fn write_message(m: Message, out: &mut [u8]) -> Written
     ensures { λ w. ⌜ (w ≡ writtenOf (Received m) (now (out .entry))) × (now (out .exit) ≡ leftOf (Received m) (now (out .entry))) ⌝ }
 {
     if rows::message_ok(m) {
-        if out.len() < size_of(3, m.parts) {
+        if out.len() < message_size(m.parts) {
             return Written::NoRoom;
         }
         return Written::Whole(put_message(out, m));
@@ -263,7 +263,7 @@ fn write_access(item: u8, error: u8, out: &mut [u8]) -> Written
         × (now (out .exit) ≡ leftOf (FromAccess item error) (now (out .entry))) ⌝ }
 {
     if rows::access_ok(item, error) {
-        if out.len() < size_of(4, 0) {
+        if out.len() < 6 {
             return Written::NoRoom;
         }
         return Written::Whole(put_access(out, item, error));
@@ -274,7 +274,7 @@ fn write_access(item: u8, error: u8, out: &mut [u8]) -> Written
 fn write_expiry(out: &mut [u8]) -> Written
     ensures { λ w. ⌜ (w ≡ writtenOf Expiry (now (out .entry))) × (now (out .exit) ≡ leftOf Expiry (now (out .entry))) ⌝ }
 {
-    if out.len() < size_of(5, 0) {
+    if out.len() < 4 {
         return Written::NoRoom;
     }
     Written::Whole(put_expiry(out))
@@ -284,7 +284,7 @@ fn write_time(seconds: u32, out: &mut [u8]) -> Written
     ensures { λ w. ⌜ (w ≡ writtenOf (Time seconds) (now (out .entry))) × (now (out .exit) ≡ leftOf (Time seconds) (now (out .entry))) ⌝ }
 {
     if rows::time_ok(seconds) {
-        if out.len() < size_of(6, 0) {
+        if out.len() < 8 {
             return Written::NoRoom;
         }
         return Written::Whole(put_time(out, seconds));

@@ -275,9 +275,10 @@ fn number_absent(n: Number) -> bool
 fn number_if(there: bool, n: Number) -> bool
     ensures { λ out. ⌜ out ≡ numberIf there n ⌝ }
 {
-    let a = number_there(n);
-    let b = number_absent(n);
-    (there & a) | (!there & b)
+    if there {
+        return number_there(n);
+    }
+    number_absent(n)
 }
 
 pub fn opening_ok(role: u8, flags: u8, own: Number) -> bool

@@ -8,12 +8,12 @@ use Rattle.files.proofs.write.write_expiry.Statement.{statement}
 use Rattle.files.proofs.write.write_expiry.Tie as tie
 
 returns : tie.Need-returns
-returns c = narrow-as Expiry _ true _ refl refl (c .before .size-of .ensures) (omega arith)
+returns c = narrow-as Expiry _ true _ refl refl (sizes .3) (omega arith)
 
 returns-2 : tie.Need-returns-2
 returns-2 c =
     let p = c .before .before in
-    whole-as Expiry _ true _ refl refl (p .before .before .before .size-of .ensures) _ _ (omega arith) (p .put-expiry .ensures)
+    whole-as Expiry _ true _ refl refl (sizes .3) _ _ (omega arith) (p .put-expiry .ensures)
 
 pub write-expiry-spec : {M : Type 1} → statement M
-write-expiry-spec = tie.close (tie.spec (λ c. λ κs. search needs) returns (λ c. λ κs. omega (arith, sizes)) (λ c. search needs) returns-2)
+write-expiry-spec = tie.close (tie.spec returns (λ c. λ κs. search needs) (λ c. search needs) returns-2)

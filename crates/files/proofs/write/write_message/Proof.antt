@@ -1,20 +1,20 @@
 use borrow.Author.Needs.{needs}
 use native.Mathlib.Omega.{arith}
 use Rattle.rows.specs.declared.Event.the-variants.{Received}
-use Rattle.files.proofs.Writes.{bad-as, narrow-as, whole-as}
+use Rattle.files.proofs.Writes.{message-sized, bad-as, narrow-as, whole-as}
 use Rattle.files.proofs.write.write_message.Statement.{statement}
 use Rattle.files.proofs.write.write_message.Tie as tie
 
 returns : tie.Need-returns
 returns c =
     let s = c .before in
-    narrow-as (Received _) _ _ _ (s .before .before .message-ok .ensures) (s .before .if1 .taken) (s .size-of .ensures) (omega arith)
+    narrow-as (Received _) _ _ _ (s .before .before .message-ok .ensures) (s .before .if1 .taken) (message-sized _ _ (s .message-size .ensures)) (omega arith)
 
 returns-2 : tie.Need-returns-2
 returns-2 c =
     let p = c .before .before in
     let s = p .before .before .before in
-    whole-as (Received _) _ _ _ (s .before .before .message-ok .ensures) (s .before .if1 .taken) (s .size-of .ensures) _ _ (omega arith)
+    whole-as (Received _) _ _ _ (s .before .before .message-ok .ensures) (s .before .if1 .taken) (message-sized _ _ (s .message-size .ensures)) _ _ (omega arith)
     (p .put-message .ensures)
 
 pub write-message-spec : {M : Type 1} → statement M
