@@ -4,7 +4,7 @@ use mathlib.Core.Bool.{true, false}
 use mathlib.Core.List.{List, _++_}
 use mathlib.Core.Logic.{_↔_}
 use mathlib.Core.Path.{_≡_, refl, sym, ap, ap₂, _∙_}
-use Prim.Native.Nat.{ℕ, _-_, _≤_, _<_}
+use Prim.Native.Nat.{ℕ, _+_, _-_, _≤_, _<_}
 use native.Mathlib.Omega.{arith}
 use lib.ListN.{length, take, drop}
 use lib.Seq.{take-append-seam, drop-append-seam}
@@ -12,12 +12,15 @@ use Rattle.text.proofs.Cases.{yes-so, no-so, yes-lt, no-lt, both-so, both-lt}
 use Rattle.rows.specs.Valid.{eventOk}
 use Rattle.rows.specs.declared.Event.{Event}
 use Rattle.rows.proofs.Truth.{differ}
-use Rattle.files.specs.Bodies.{recordOf, readAt}
+use Rattle.files.specs.Bodies.{kindOf, fieldsOf, valuesOf, headOf, recordOf, readAt}
+use Rattle.files.specs.Bytes.{leAt, leOf}
+use Rattle.files.specs.Fields.{bytesOf}
+use Rattle.files.specs.Frames.{lengthWith}
 use Rattle.files.specs.Write.{writtenOf, leftOf, numberOf, bytesWritten}
 use Rattle.files.specs.declared.Read.{Read}
 use Rattle.files.specs.declared.Written.{Written}
 use Rattle.files.specs.declared.Written.the-variants.{Whole}
-use Rattle.files.proofs.BothWays.{Typed, first-reads-back, read-writes-back}
+use Rattle.files.proofs.BothWays.{Typed, record-length, record-range, first-reads-back, read-writes-back}
 use Rattle.files.proofs.Same.{Wrote, Numbered}
 use Rattle.files.proofs.Stored.{AllBytes}
 
@@ -32,8 +35,22 @@ pub record Writes (e : Event) (old : List ℕ) (r : ℕ) (new : List ℕ) : Type
   -- on 0 the buffer begins with the record, and the bytes past it stay
   pub written : r ≡ 0 → take (length (recordOf e)) new ≡ recordOf e
   pub beyond : r ≡ 0 → drop (length (recordOf e)) new ≡ drop (length (recordOf e)) old
+  -- its first two bytes count those that follow them
+  pub stated : r ≡ 0 → 2 + leAt 2 new 0 ≡ length (recordOf e)
   -- and the reader gives the event back, and the place after it
   pub read : r ≡ 0 → Typed e → readAt new 0 ≡ Read.Got e (length (recordOf e))
+
+two-bytes : (n : ℕ) (a b c : List ℕ) → n < 65536 → leAt 2 (leOf 2 n ++ a ++ b ++ c) 0 ≡ n
+unfolding leAt leOf
+two-bytes n a b c h = omega arith
+
+stated-first : (e : Event) (rest : List ℕ) → leAt 2 (recordOf e ++ rest) 0 ≡ lengthWith (fieldsOf e)
+unfolding recordOf headOf
+stated-first e rest =
+    two-bytes (lengthWith (fieldsOf e)) (leOf 2 (kindOf e)) (bytesOf (fieldsOf e) (valuesOf e)) rest (omega (arith, record-length e, record-range e .1))
+
+first-two : (e : Event) (rest : List ℕ) → 2 + leAt 2 (recordOf e ++ rest) 0 ≡ length (recordOf e)
+first-two e rest = ap (λ (n : ℕ). 2 + n) (stated-first e rest) ∙ sym (record-length e)
 
 module _ (e : Event) (old : List ℕ) (r : ℕ) (new : List ℕ) where
   is-bad : eventOk e ≡ false → r ≡ 3 → new ≡ old → Writes e old r new
@@ -45,6 +62,7 @@ module _ (e : Event) (old : List ℕ) (r : ℕ) (new : List ℕ) where
         refused = λ _. f;
         written = λ k. absurd (omega arith);
         beyond = λ k. absurd (omega arith);
+        stated = λ k. absurd (omega arith);
         read = λ k _. absurd (omega arith);
       }
 
@@ -57,6 +75,7 @@ module _ (e : Event) (old : List ℕ) (r : ℕ) (new : List ℕ) where
         refused = λ _. f;
         written = λ k. absurd (omega arith);
         beyond = λ k. absurd (omega arith);
+        stated = λ k. absurd (omega arith);
         read = λ k _. absurd (omega arith);
       }
 
@@ -70,6 +89,7 @@ module _ (e : Event) (old : List ℕ) (r : ℕ) (new : List ℕ) where
         refused = λ k. absurd (k g);
         written = λ _. rw f (take-append-seam (recordOf e) rest);
         beyond = λ _. rw f (drop-append-seam (recordOf e) rest);
+        stated = λ _. rw f (first-two e rest);
         read = λ _ t. rw f (first-reads-back e h t rest);
       }
 

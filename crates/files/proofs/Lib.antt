@@ -6,6 +6,7 @@ pub mod Fits
 pub mod GivenBack
 pub mod HostWrites
 pub mod Records
+pub mod RecordsWorked
 pub mod Same
 pub mod Shown
 pub mod Stored
@@ -15,5 +16,4 @@ pub mod Turns
 pub mod Unread
 pub mod Values
 pub mod Worked
-pub mod WorkedRecords
 pub mod Writes
