@@ -27,13 +27,15 @@ use Rattle.files.specs.Fields.{messageFields, sizeOf, valuesAt, bytesOf}
 use Rattle.files.specs.Frames.{lengthWith, lengthOf, frameOf, frameAt}
 use Rattle.files.specs.Bodies.{componentOf, codeOf, itemOf, kindOf, fieldsOf, valuesOf, headOf, recordOf, eventAt, readBy, readAt}
 use Rattle.files.specs.Bodies.{openingFrom, askFrom, messageFrom, accessFrom, timeFrom, openingAt, askAt, messageAt, accessAt, timeAt}
+use Rattle.files.specs.Write.{numberWith, messageWith}
 use Rattle.files.specs.Shown.{whole, Contents, andThen, contentsFrom, contentsOf, eventsOf}
 use Rattle.files.specs.declared.Frame.{Frame}
 use Rattle.files.specs.declared.Read.{Read}
 use Rattle.files.proofs.Records.{le-one}
 use Rattle.files.proofs.Stored.{AllBytes, Fits, Holds, holds-between, fields-length, fields-back, fields-again}
 
--- ---- an event whose fields are numbers of their types
+-- ---- an event whose fields are numbers of their types (crates/rows/src/lib.rt), as every event of a program is. In range, that says
+-- something of an error number and of a Duration alone: a range bounds every other field.
 
 abbrev pub TypedNumber : Number → Type 0
 TypedNumber n = (n .count < 256) × (n .value < 2 ^ 64)
@@ -428,6 +430,13 @@ again-from (suc k) s at a h e =
 pub record-range : (e : Event) → (4 ≤ length (recordOf e)) × (length (recordOf e) ≤ 31)
 record-range e = let l = record-length e in let b = body-length e in (omega arith, omega arith)
 
+-- What a host in C passes for a message stands in the record as it was passed, in the order of the parameters.
+pub message-passed : (kind cause code item parts callingCount callingValue calledCount calledValue duration : ℕ)
+    → valuesOf (messageWith kind cause code item parts (numberWith callingCount callingValue) (numberWith calledCount calledValue) duration)
+    ≡ kind ∷ cause ∷ code ∷ item ∷ parts ∷ callingCount ∷ callingValue ∷ calledCount ∷ calledValue ∷ duration ∷ []
+message-passed kind cause code item parts callingCount callingValue calledCount calledValue duration =
+    rw (code-again code item, item-again code item)
+
 -- An event in range, written at any place, reads back as itself, whatever stands before and after it; and reading goes on where it ends.
 pub written-reads-back : (e : Event) → eventOk e ≡ true → Typed e → (p q : List ℕ)
     → readAt (p ++ recordOf e ++ q) (length p) ≡ Read.Got e (length p + length (recordOf e))
@@ -449,9 +458,6 @@ pub same-bytes-same-event : (e f : Event) → eventOk e ≡ true → Typed e →
 same-bytes-same-event e f k t l u q r h =
     let g = sym (first-reads-back e k t q) ∙ ap (λ (s : List ℕ). readAt s 0) h ∙ first-reads-back f l u r in
     cc
-
-pub same-record-same-event : (e f : Event) → eventOk e ≡ true → Typed e → eventOk f ≡ true → Typed f → recordOf e ≡ recordOf f → e ≡ f
-same-record-same-event e f k t l u h = same-bytes-same-event e f k t l u [] [] (ap (λ (s : List ℕ). s ++ []) h)
 
 -- An event has one form: wherever it is read in files of bytes, the same bytes stand there.
 pub one-form : (s t : List ℕ) → AllBytes s → AllBytes t → (at next at′ next′ : ℕ) (e : Event)

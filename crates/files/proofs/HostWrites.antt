@@ -79,7 +79,8 @@ module _ (e : Event) (old : List ℕ) (r : ℕ) (new : List ℕ) where
         read = λ k _. absurd (omega arith);
       }
 
-  is-whole : eventOk e ≡ true → length (recordOf e) ≤ length old → r ≡ 0 → new ≡ recordOf e ++ drop (length (recordOf e)) old → Writes e old r new
+  is-whole : eventOk e ≡ true → length (recordOf e) ≤ length old → r ≡ 0 → new ≡ recordOf e ++ drop (length (recordOf e)) old
+      → Writes e old r new
   is-whole h l g f =
       let rest = drop (length (recordOf e)) old in
       record {

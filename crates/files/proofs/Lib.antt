@@ -5,6 +5,7 @@ pub mod Eight
 pub mod Fits
 pub mod GivenBack
 pub mod HostWrites
+pub mod Puts
 pub mod Records
 pub mod RecordsWorked
 pub mod Same
@@ -16,4 +17,3 @@ pub mod Turns
 pub mod Unread
 pub mod Values
 pub mod Worked
-pub mod Writes

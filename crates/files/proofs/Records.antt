@@ -13,7 +13,8 @@ use Rattle.rows.specs.declared.Message.{Message}
 use Rattle.rows.specs.declared.Number.{Number}
 use Rattle.text.proofs.Cases.{no-le, both-lt, both-le, both-eq}
 use Rattle.files.specs.Bytes.{byteAt, leAt, part}
-use Rattle.files.specs.Bodies.{numberIf, numberValues, messageFrom, openingAt, askAt, componentOf, messageAt, accessAt, timeAt, eventAt, readBy, readAt}
+use Rattle.files.specs.Bodies.{numberIf, numberValues, messageFrom, openingAt, askAt, componentOf, messageAt, accessAt, timeAt, eventAt}
+use Rattle.files.specs.Bodies.{readBy, readAt}
 use Rattle.files.specs.Fields.{numberFields, carriedFields, messageFields, sizeOf, valuesAt}
 use Rattle.files.specs.Frames.{lengthWith, lengthOf, frameOf, frameAt}
 use Rattle.files.specs.declared.Frame.{Frame}
@@ -50,20 +51,24 @@ number-as s i count value e f = simp (e, f, le-one)
 pub number-there : (s : List ℕ) (i present : ℕ) (n : Number) → present ≡ 1 → n ≡ numberIf s i 1 → n ≡ numberIf s i present
 number-there s i present n e f = f ∙ ap (numberIf s i) (sym e)
 
-pub number-none : (s : List ℕ) (i present : ℕ) → present < 2 → (present ≡ 1 → ⊥) → record { count = 0; value = 0 } ≡ numberIf s i present
+no-bytes : (s : List ℕ) (i : ℕ) → (record { count = 0; value = 0 } ≡ numberIf s i 0) × (0 ≡ leAt 0 s i)
 unfolding numberIf valuesAt leAt
-number-none s i zero g h = refl
-number-none s i (suc zero) g h = absurd (h refl)
-number-none s i (suc (suc k)) g h = absurd (omega arith)
+no-bytes s i = (refl, refl)
+
+-- what is neither of two is the other
+pub not-one : (present : ℕ) → present < 2 → (present ≡ 1 → ⊥) → 0 ≡ present
+not-one zero g h = refl
+not-one (suc zero) g h = absurd (h refl)
+not-one (suc (suc k)) g h = absurd (omega arith)
+
+pub number-none : (s : List ℕ) (i present : ℕ) → present < 2 → (present ≡ 1 → ⊥) → record { count = 0; value = 0 } ≡ numberIf s i present
+number-none s i present g h = no-bytes s i .0 ∙ ap (numberIf s i) (not-one present g h)
 
 pub duration-there : (s : List ℕ) (i present n : ℕ) → present ≡ 1 → n ≡ leAt 4 s i → n ≡ leAt (4 * present) s i
 duration-there s i present n e f = f ∙ ap (λ (k : ℕ). leAt (4 * k) s i) (sym e)
 
 pub duration-none : (s : List ℕ) (i present : ℕ) → present < 2 → (present ≡ 1 → ⊥) → 0 ≡ leAt (4 * present) s i
-unfolding leAt
-duration-none s i zero g h = refl
-duration-none s i (suc zero) g h = absurd (h refl)
-duration-none s i (suc (suc k)) g h = absurd (omega arith)
+duration-none s i present g h = no-bytes s i .1 ∙ ap (λ (k : ℕ). leAt (4 * k) s i) (not-one present g h)
 
 pub opening-as : (s : List ℕ) (b role flags : ℕ) (own : Number) → role ≡ byteAt s b → flags ≡ byteAt s (b + 1) → own ≡ numberIf s (b + 2) 1
     → Opening role flags own ≡ openingAt s b

@@ -11,7 +11,8 @@ use Rattle.rows.specs.declared.Component.the-variants.{Absent, Invoke, Result, 
 use Rattle.rows.specs.declared.Event.{Event}
 use Rattle.rows.specs.declared.Event.the-variants.{Opening, Ask, Received, FromAccess, Expiry, Time}
 use Rattle.rows.specs.declared.Number.{Number}
-use Rattle.files.specs.Bodies.{openingAt, askAt, componentOf, numberIf, messageAt, accessAt, timeAt, eventAt, readAt, headOf, recordOf}
+use Rattle.files.specs.Bodies.{openingAt, askAt, componentOf, numberIf, messageAt, accessAt, timeAt, eventAt, readAt, headOf}
+use Rattle.files.specs.Bodies.{recordOf}
 use Rattle.files.specs.Bytes.{leAt, leOf}
 use Rattle.files.specs.Fields.{sizeOf, valuesAt, bytesOf}
 use Rattle.files.specs.Frames.{lengthOf, frameOf, frameAt}
@@ -24,6 +25,10 @@ own = record { count = 7; value = 5550100 }
 
 called : Number
 called = record { count = 7; value = 5550123 }
+
+-- of fifteen digits
+long : Number
+long = record { count = 15; value = 123456789012345 }
 
 message : ℕ → ℕ → Component → ℕ → Number → Number → ℕ → Event
 message kind cause component parts calling dialled duration =
@@ -44,9 +49,9 @@ answer-bytes : recordOf (message 2 0 (Result 1) 0 absent absent 0) ≡ 7 ∷ 0 �
 unfolding message recordOf headOf bytesOf sizeOf leOf
 answer-bytes = refl
 
-message-bytes : recordOf (message 5 0 (Invoke 3) 127 own called 40)
-    ≡ 29 ∷ 0 ∷ 3 ∷ 0 ∷ 5 ∷ 0 ∷ 1 ∷ 3 ∷ 127 ∷ 7 ∷ 20 ∷ 176 ∷ 84 ∷ 0 ∷ 0 ∷ 0 ∷ 0 ∷ 0 ∷ 7 ∷ 43 ∷ 176 ∷ 84 ∷ 0 ∷ 0 ∷ 0 ∷ 0 ∷ 0 ∷ 40 ∷ 0 ∷ 0 ∷ 0 ∷ []
-unfolding message own called recordOf headOf bytesOf sizeOf leOf
+message-bytes : recordOf (message 5 0 (Invoke 3) 127 long called 305419896)
+    ≡ 29 ∷ 0 ∷ 3 ∷ 0 ∷ 5 ∷ 0 ∷ 1 ∷ 3 ∷ 127 ∷ 15 ∷ 121 ∷ 223 ∷ 13 ∷ 134 ∷ 72 ∷ 112 ∷ 0 ∷ 0 ∷ 7 ∷ 43 ∷ 176 ∷ 84 ∷ 0 ∷ 0 ∷ 0 ∷ 0 ∷ 0 ∷ 120 ∷ 86 ∷ 52 ∷ 18 ∷ []
+unfolding message long called recordOf headOf bytesOf sizeOf leOf
 message-bytes = refl
 
 -- the called number alone stands directly behind the parts
@@ -54,6 +59,15 @@ called-bytes : recordOf (message 1 0 (Absent 0) 32 absent called 0)
     ≡ 16 ∷ 0 ∷ 3 ∷ 0 ∷ 1 ∷ 0 ∷ 0 ∷ 0 ∷ 32 ∷ 7 ∷ 43 ∷ 176 ∷ 84 ∷ 0 ∷ 0 ∷ 0 ∷ 0 ∷ 0 ∷ []
 unfolding message called recordOf headOf bytesOf sizeOf leOf
 called-bytes = refl
+
+-- a REL with cause 16 and error 9; a FAC with a reject
+error-bytes : recordOf (message 4 16 (Error 9) 0 absent absent 0) ≡ 7 ∷ 0 ∷ 3 ∷ 0 ∷ 4 ∷ 16 ∷ 3 ∷ 9 ∷ 0 ∷ []
+unfolding message recordOf headOf bytesOf sizeOf leOf
+error-bytes = refl
+
+reject-bytes : recordOf (message 5 0 (Reject 0) 0 absent absent 0) ≡ 7 ∷ 0 ∷ 3 ∷ 0 ∷ 5 ∷ 0 ∷ 4 ∷ 0 ∷ 0 ∷ []
+unfolding message recordOf headOf bytesOf sizeOf leOf
+reject-bytes = refl
 
 access-bytes : recordOf (FromAccess 2 12) ≡ 4 ∷ 0 ∷ 4 ∷ 0 ∷ 2 ∷ 12 ∷ []
 unfolding recordOf headOf bytesOf sizeOf leOf
@@ -79,9 +93,9 @@ unfolding called readAt frameAt frameOf lengthOf eventAt askAt numberIf sizeOf v
 request-read = refl
 
 message-read : readAt
-    (99 ∷ 29 ∷ 0 ∷ 3 ∷ 0 ∷ 5 ∷ 0 ∷ 1 ∷ 3 ∷ 127 ∷ 7 ∷ 20 ∷ 176 ∷ 84 ∷ 0 ∷ 0 ∷ 0 ∷ 0 ∷ 0 ∷ 7 ∷ 43 ∷ 176 ∷ 84 ∷ 0 ∷ 0 ∷ 0 ∷ 0 ∷ 0 ∷ 40 ∷ 0 ∷ 0 ∷ 0 ∷ 99 ∷ []) 1
-    ≡ Read.Got (message 5 0 (Invoke 3) 127 own called 40) 32
-unfolding message own called readAt frameAt frameOf lengthOf eventAt messageAt componentOf numberIf sizeOf valuesAt leAt ifLt ifLe ifEq ifSo
+    (99 ∷ 29 ∷ 0 ∷ 3 ∷ 0 ∷ 5 ∷ 0 ∷ 1 ∷ 3 ∷ 127 ∷ 15 ∷ 121 ∷ 223 ∷ 13 ∷ 134 ∷ 72 ∷ 112 ∷ 0 ∷ 0 ∷ 7 ∷ 43 ∷ 176 ∷ 84 ∷ 0 ∷ 0 ∷ 0 ∷ 0 ∷ 0 ∷ 120 ∷ 86 ∷ 52 ∷ 18 ∷ 99 ∷ []) 1
+    ≡ Read.Got (message 5 0 (Invoke 3) 127 long called 305419896) 32
+unfolding message long called readAt frameAt frameOf lengthOf eventAt messageAt componentOf numberIf sizeOf valuesAt leAt ifLt ifLe ifEq ifSo
 message-read = refl
 
 access-read : readAt (99 ∷ 4 ∷ 0 ∷ 4 ∷ 0 ∷ 2 ∷ 12 ∷ 99 ∷ []) 1 ≡ Read.Got (FromAccess 2 12) 7

@@ -1,5 +1,5 @@
 -- Any two results that a contract of `files` allows are the same: a law for each form that is not already in the Same.antt of `text`
--- (`same`: `read_at`, `found_at`, `take_at`, `left`, `count_records`; `put-same`: the writers).
+-- (`same`: `read_at`, `found_at`, `take_at`, `left`, `count_records`; `put-same`: the functions that put text or bytes).
 -- Assumes nothing.
 use mathlib.Core.Bool.{Bool, true, false}
 use mathlib.Core.Path.{_≡_, refl, sym, ap, _∙_}
@@ -21,10 +21,14 @@ use Rattle.files.specs.declared.Written.{Written}
 abbrev pub Fitted : List ℕ → List ℕ → List ℕ → ℕ → List ℕ → Type 0
 Fitted s t old r new = (r ≡ answers s t old) × (new ≡ leaves s t old)
 
+-- Whatever an answer and a content of the buffer are said to be, there is one of each.
+both-same : {A : Type 0} {a r r′ : A} {b new new′ : List ℕ} → (r ≡ a) × (new ≡ b) → (r′ ≡ a) × (new′ ≡ b) → (r ≡ r′) × (new ≡ new′)
+both-same p q = (same (p .0) (q .0), same (p .1) (q .1))
+
 -- For one file and one buffer there is one number, and one content of the buffer after it.
 pub fitted-same : (s t old : List ℕ) {r r′ : ℕ} {new new′ : List ℕ} →
     Fitted s t old r new → Fitted s t old r′ new′ → (r ≡ r′) × (new ≡ new′)
-fitted-same s t old p q = (same (p .0) (q .0), same (p .1) (q .1))
+fitted-same s t old p q = both-same p q
 
 -- What `open` says: a reader over these bytes, at the first.
 abbrev pub Opened : RefT (List ℕ) → Reader → Type 0
@@ -60,12 +64,13 @@ abbrev pub Numbered : Event → List ℕ → ℕ → List ℕ → Type 0
 Numbered e old r new = (r ≡ numberOf (writtenOf e old)) × (new ≡ leftOf e old)
 
 -- For one event and one buffer there is one answer, one number, and one content of the buffer after it.
-pub wrote-same : (e : Event) (old : List ℕ) {w w′ : Written} {new new′ : List ℕ} → Wrote e old w new → Wrote e old w′ new′ → (w ≡ w′) × (new ≡ new′)
-wrote-same e old p q = (same (p .0) (q .0), same (p .1) (q .1))
+pub wrote-same : (e : Event) (old : List ℕ) {w w′ : Written} {new new′ : List ℕ} →
+    Wrote e old w new → Wrote e old w′ new′ → (w ≡ w′) × (new ≡ new′)
+wrote-same e old p q = both-same p q
 
 pub numbered-same : (e : Event) (old : List ℕ) {r r′ : ℕ} {new new′ : List ℕ} →
     Numbered e old r new → Numbered e old r′ new′ → (r ≡ r′) × (new ≡ new′)
-numbered-same e old p q = (same (p .0) (q .0), same (p .1) (q .1))
+numbered-same e old p q = both-same p q
 
 -- What `says` says is `Says` (Words.antt). For one line and one event there is one answer.
 pub says-same : {line : List ℕ} {e : Event} (r r′ : Bool) → Says line e r → Says line e r′ → r ≡ r′

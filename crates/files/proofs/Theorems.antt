@@ -1,8 +1,9 @@
 -- THE THEOREMS about files, each with its sentence, to be read alone. What they speak of is defined in specs/: Listing.antt and Dump.antt
 -- (`listingOf`, `dumpOf`: the bytes of the two texts), Fit.antt (`answers`, `leaves`: what a host is given), Shown.antt (the records that
--- a file shows), Bodies.antt (`readAt`, `recordOf`: a record's event and an event's record), Write.antt (`writtenOf`, `leftOf`). Contracts.antt ties them to the contracts of the functions; the theorems about the rows are in crates/rows.
+-- a file shows), Bodies.antt (`readAt`, `recordOf`: a record's event and an event's record), Write.antt (`writtenOf`, `leftOf`). Contracts.antt
+-- ties them to the contracts of the functions; the theorems about the rows are in crates/rows.
 -- Assumes nothing.
-use mathlib.Core.List.{List, _++_}
+use mathlib.Core.List.{List, [], _∷_, _++_}
 use mathlib.Core.Logic.{_↔_, _⊎_}
 use mathlib.Core.Option.{some}
 use mathlib.Core.Path.{_≡_, refl, _∙_, ap}
@@ -17,12 +18,12 @@ use Rattle.rows.specs.Valid.{eventOk}
 use Rattle.rows.specs.declared.Event.{Event}
 use Rattle.rows.proofs.Payers.{ten-for-the-unpaid, paid-on}
 use Rattle.rows.proofs.Stays.{nine-exactly, calls-stay, unopened-valid}
-use Rattle.files.specs.Bodies.{recordOf, readAt}
+use Rattle.files.specs.Bodies.{valuesOf, recordOf, readAt}
 use Rattle.files.specs.Dump.{dumpOf}
 use Rattle.files.specs.Fit.{answers}
 use Rattle.files.specs.Listing.{listingOf}
 use Rattle.files.specs.Shown.{whole, contentsOf, eventsOf, Shown, shownOf}
-use Rattle.files.specs.Write.{writtenOf, leftOf, numberOf, bytesWritten}
+use Rattle.files.specs.Write.{writtenOf, leftOf, numberOf, bytesWritten, numberWith, messageWith}
 use Rattle.files.specs.declared.Read.{Read}
 use Rattle.files.specs.declared.Written.{Written}
 use Rattle.files.specs.declared.Written.the-variants.{Whole}
@@ -79,11 +80,12 @@ listing-eight = Eight.listing-eight
 pub dump-eight : (s out : List ℕ) → (answers s (dumpOf s) out ≡ 8) ↔ ((65536 < length s) ⊎ (length out < length (dumpOf s)))
 dump-eight = Eight.dump-eight
 
--- ---- A record and its event (02 #102). `Typed`: the fields are numbers of their types, which every event of a program has; `AllBytes`: every
--- byte of a file is below 256, likewise.
+-- ---- A record and its event (02 #102). `Typed`: the fields of an event are numbers of their types; `AllBytes`: every byte of a file is below
+-- 256. The events and files of a program are so.
 
--- What a host gets by the contract of each writer: 3 exactly where a field is out of range, 8 exactly where the fields are in range and the
--- record is longer than the room, else 0; on a refusal every byte as it was; on 0 the record, which is read as the event, and the old bytes.
+-- What a host gets by the contract of each writer: 3 exactly where a field is out of range, 8 exactly where the fields are in range and
+-- the record is longer than the room, else 0; on a refusal every byte as it was; on 0 the record, which states its length and is read as
+-- the event, and the old bytes.
 pub host-writes : (e : Event) (old : List ℕ) (r : ℕ) (new : List ℕ) → Numbered e old r new → Writes e old r new
 host-writes = HostWrites.host-writes
 
@@ -107,12 +109,12 @@ pub read-writes-back : (s : List ℕ) → AllBytes s → (at next : ℕ) (e : Ev
     (recordOf e ≡ take (next - at) (drop at s)) × (next ≡ at + length (recordOf e))
 read-writes-back = BothWays.read-writes-back
 
--- Two events that write the same bytes are the same event, also where only one of the two records begins as the other does.
+-- Two events that write the same bytes are the same event, and no record is the beginning of another's.
 pub same-bytes-same-event : (e f : Event) → eventOk e ≡ true → Typed e → eventOk f ≡ true → Typed f → (q r : List ℕ) →
     recordOf e ++ q ≡ recordOf f ++ r → e ≡ f
 same-bytes-same-event = BothWays.same-bytes-same-event
 
--- Every record has exactly one form: two places of two files that are read as the same event hold the same bytes.
+-- Every event has exactly one form: two places of two files that are read as the same event hold the same bytes.
 pub one-form : (s t : List ℕ) → AllBytes s → AllBytes t → (at next at′ next′ : ℕ) (e : Event) →
     readAt s at ≡ Read.Got e next → readAt t at′ ≡ Read.Got e next′ → take (next - at) (drop at s) ≡ take (next′ - at′) (drop at′ t)
 one-form = BothWays.one-form
@@ -124,6 +126,12 @@ file-of-events = BothWays.file-of-events
 -- .. and every file that is read to its end is the file of its events.
 pub events-of-file : (s : List ℕ) → AllBytes s → contentsOf s .ending ≡ whole → fileOf (eventsOf s) ≡ s
 events-of-file = BothWays.events-of-file
+
+-- What a host in C passes for a message stands in the record as it was passed, in the order of the parameters.
+pub message-passed : (kind cause code item parts callingCount callingValue calledCount calledValue duration : ℕ) →
+    valuesOf (messageWith kind cause code item parts (numberWith callingCount callingValue) (numberWith calledCount calledValue) duration)
+    ≡ kind ∷ cause ∷ code ∷ item ∷ parts ∷ callingCount ∷ callingValue ∷ calledCount ∷ calledValue ∷ duration ∷ []
+message-passed = BothWays.message-passed
 
 -- A record has 4 to 31 bytes.
 pub record-range : (e : Event) → (4 ≤ length (recordOf e)) × (length (recordOf e) ≤ 31)

@@ -1,8 +1,9 @@
-// The event file of one call: its listing, a dump of it, and a reader of its records.
+// The event file of one call: its listing, a dump of it, a reader of its records, and a writer of them.
 //
 //     bytes --frame--> kind --event--> Event --step--> Outcome --put--> text
 //
-// Every read and every store is total: a byte past the end of the file is 0, a byte past the end of the buffer is not stored.
+// Every read is total, and in the texts every store: a byte past the end of the file is 0, a byte past the end of the buffer is not stored.
+// The writer of records measures first, and stores where there is room.
 mod bodies;
 mod bytes;
 mod dump;

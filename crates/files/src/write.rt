@@ -1,5 +1,6 @@
 // The writer: an event as a whole record at the start of a lent buffer. Its fields are judged first, then the room; where either is bad
-// nothing is stored. The table of fields and the lengths are the reader's own.
+// nothing is stored. Each length stands as a number beside the fields that it counts: the table of fields, which is the reader's too, holds
+// it to them.
 ghost use mathlib.Core.Path.{_≡_};
 ghost use Prim.Native.Nat.{_+_, _*_, _≤_, _<_};
 ghost use lib.ListN.{length};
@@ -337,19 +338,19 @@ pub extern "C" fn rev_write_opening(
 }
 
 #[no_mangle]
-pub extern "C" fn rev_write_request(item: u8, count: u8, value: u64, out: &mut [u8]) -> u32
-    ensures { λ r. ⌜ (r ≡ numberOf (writtenOf (Ask item (numberWith count value)) (now (out .entry))))
-        × (now (out .exit) ≡ leftOf (Ask item (numberWith count value)) (now (out .entry))) ⌝ }
+pub extern "C" fn rev_write_request(request: u8, count: u8, value: u64, out: &mut [u8]) -> u32
+    ensures { λ r. ⌜ (r ≡ numberOf (writtenOf (Ask request (numberWith count value)) (now (out .entry))))
+        × (now (out .exit) ≡ leftOf (Ask request (numberWith count value)) (now (out .entry))) ⌝ }
 {
     let called = Number { count, value };
-    number_of(write_ask(item, called, out))
+    number_of(write_ask(request, called, out))
 }
 
 #[no_mangle]
 pub extern "C" fn rev_write_message(
-    kind: u8,
+    message: u8,
     cause: u8,
-    code: u8,
+    component: u8,
     item: u8,
     parts: u8,
     callingcount: u8,
@@ -359,8 +360,12 @@ pub extern "C" fn rev_write_message(
     duration: u32,
     out: &mut [u8],
 ) -> u32
-    ensures { λ r. ⌜ (r ≡ numberOf (writtenOf (messageWith kind cause code item parts (numberWith callingcount callingvalue) (numberWith calledcount calledvalue) duration) (now (out .entry))))
-        × (now (out .exit) ≡ leftOf (messageWith kind cause code item parts (numberWith callingcount callingvalue) (numberWith calledcount calledvalue) duration) (now (out .entry))) ⌝ }
+    ensures { λ r. ⌜ (r ≡ numberOf (writtenOf
+        (messageWith message cause component item parts (numberWith callingcount callingvalue) (numberWith calledcount calledvalue) duration)
+        (now (out .entry))))
+        × (now (out .exit) ≡ leftOf
+        (messageWith message cause component item parts (numberWith callingcount callingvalue) (numberWith calledcount calledvalue) duration)
+        (now (out .entry))) ⌝ }
 {
     let calling = Number {
         count: callingcount,
@@ -370,9 +375,9 @@ pub extern "C" fn rev_write_message(
         count: calledcount,
         value: calledvalue,
     };
-    let component = component_of(code, item);
+    let component = component_of(component, item);
     let m = Message {
-        kind,
+        kind: message,
         cause,
         component,
         parts,
@@ -384,11 +389,11 @@ pub extern "C" fn rev_write_message(
 }
 
 #[no_mangle]
-pub extern "C" fn rev_write_access(item: u8, error: u8, out: &mut [u8]) -> u32
-    ensures { λ r. ⌜ (r ≡ numberOf (writtenOf (FromAccess item error) (now (out .entry))))
-        × (now (out .exit) ≡ leftOf (FromAccess item error) (now (out .entry))) ⌝ }
+pub extern "C" fn rev_write_access(told: u8, error: u8, out: &mut [u8]) -> u32
+    ensures { λ r. ⌜ (r ≡ numberOf (writtenOf (FromAccess told error) (now (out .entry))))
+        × (now (out .exit) ≡ leftOf (FromAccess told error) (now (out .entry))) ⌝ }
 {
-    number_of(write_access(item, error, out))
+    number_of(write_access(told, error, out))
 }
 
 #[no_mangle]

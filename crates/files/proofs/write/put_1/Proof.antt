@@ -1,6 +1,6 @@
 use borrow.Author.Needs.{needs}
 use native.Mathlib.Omega.{arith}
-use Rattle.files.proofs.Writes.{store-one}
+use Rattle.files.proofs.Puts.{store-one}
 use Rattle.files.proofs.write.put_1.Statement.{statement}
 use Rattle.files.proofs.write.put_1.Tie as tie
 

@@ -1,5 +1,5 @@
 use borrow.Author.Needs.{needs}
-use Rattle.files.proofs.Writes.{expiry-as}
+use Rattle.files.proofs.Puts.{expiry-as}
 use Rattle.files.proofs.write.put_expiry.Statement.{statement}
 use Rattle.files.proofs.write.put_expiry.Tie as tie
 

@@ -1,5 +1,5 @@
 use borrow.Author.Needs.{needs}
-use Rattle.files.proofs.Writes.{front-as}
+use Rattle.files.proofs.Puts.{front-as}
 use Rattle.files.proofs.write.put_front.Statement.{statement}
 use Rattle.files.proofs.write.put_front.Tie as tie
 
@@ -17,4 +17,8 @@ returns c =
     )
 
 pub put-front-spec : {M : Type 1} → statement M
-put-front-spec = tie.close (tie.spec (λ c. λ κs. search needs) (λ c. λ κs. search needs) (λ c. λ κs. search needs) (λ c. λ κs. search needs) (λ c. λ κs. search needs) (λ c. λ κs. search needs) (λ c. λ κs. search needs) (λ c. search needs) returns)
+put-front-spec =
+    tie.close
+    (tie.spec
+    (λ c. λ κs. search needs) (λ c. λ κs. search needs) (λ c. λ κs. search needs) (λ c. λ κs. search needs) (λ c. λ κs. search needs)
+    (λ c. λ κs. search needs) (λ c. λ κs. search needs) (λ c. search needs) returns)

@@ -1,5 +1,5 @@
 use borrow.Author.Needs.{needs}
-use Rattle.files.proofs.Writes.{time-as}
+use Rattle.files.proofs.Puts.{time-as}
 use Rattle.files.proofs.write.put_time.Statement.{statement}
 use Rattle.files.proofs.write.put_time.Tie as tie
 

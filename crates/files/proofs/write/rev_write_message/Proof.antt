@@ -1,5 +1,5 @@
 use borrow.Author.Needs.{needs}
-use Rattle.files.proofs.Writes.{message-made}
+use Rattle.files.proofs.Puts.{message-made}
 use Rattle.files.proofs.write.rev_write_message.Statement.{statement}
 use Rattle.files.proofs.write.rev_write_message.Tie as tie
 
@@ -10,4 +10,6 @@ returns c =
 
 pub rev-write-message-spec : {M : Type 1} → statement M
 rev-write-message-spec =
-    tie.close (tie.spec (λ c. λ κs. search needs) (λ c. λ κs. search needs) (λ c. λ κs. search needs) (λ c. search needs) returns)
+    tie.close
+    (tie.spec
+    (λ c. λ κs. search needs) (λ c. λ κs. search needs) (λ c. λ κs. search needs) (λ c. search needs) returns)

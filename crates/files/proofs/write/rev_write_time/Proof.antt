@@ -1,13 +1,11 @@
 use borrow.Author.Needs.{needs}
-use mathlib.Core.Path.{ap, _∙_}
-use Rattle.files.specs.Write.{numberOf}
+use Rattle.files.proofs.Puts.{numbered-as}
 use Rattle.files.proofs.write.rev_write_time.Statement.{statement}
 use Rattle.files.proofs.write.rev_write_time.Tie as tie
 
-returns : tie.Need-returns
-returns c =
-    let d = c .before .before .before in
-    (c .number-of .ensures ∙ ap numberOf (d .write-time .ensures .0), d .write-time .ensures .1)
-
 pub rev-write-time-spec : {M : Type 1} → statement M
-rev-write-time-spec = tie.close (tie.spec (λ c. λ κs. search needs) (λ c. λ κs. search needs) (λ c. search needs) returns)
+rev-write-time-spec =
+    tie.close
+    (tie.spec
+    (λ c. λ κs. search needs) (λ c. λ κs. search needs) (λ c. search needs)
+    (λ c. numbered-as _ _ _ _ _ (c .number-of .ensures) (c .before .before .before .write-time .ensures)))

@@ -3,7 +3,7 @@ use native.Mathlib.Omega.{arith}
 use mathlib.Core.Bool.{true}
 use mathlib.Core.Path.{refl}
 use Rattle.rows.specs.declared.Event.the-variants.{Expiry}
-use Rattle.files.proofs.Writes.{sizes, narrow-as, whole-as}
+use Rattle.files.proofs.Puts.{sizes, narrow-as, whole-as}
 use Rattle.files.proofs.write.write_expiry.Statement.{statement}
 use Rattle.files.proofs.write.write_expiry.Tie as tie
 

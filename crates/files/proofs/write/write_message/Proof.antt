@@ -1,7 +1,7 @@
 use borrow.Author.Needs.{needs}
 use native.Mathlib.Omega.{arith}
 use Rattle.rows.specs.declared.Event.the-variants.{Received}
-use Rattle.files.proofs.Writes.{message-sized, bad-as, narrow-as, whole-as}
+use Rattle.files.proofs.Puts.{message-sized, bad-as, narrow-as, whole-as}
 use Rattle.files.proofs.write.write_message.Statement.{statement}
 use Rattle.files.proofs.write.write_message.Tie as tie
 
@@ -18,4 +18,8 @@ returns-2 c =
     (p .put-message .ensures)
 
 pub write-message-spec : {M : Type 1} → statement M
-write-message-spec = tie.close (tie.spec (λ c. λ κs. search needs) (λ c. λ κs. search needs) returns (λ c. λ κs. search needs) (λ c. search needs) returns-2 (λ c. bad-as (Received _) _ _ (c .before .message-ok .ensures) (c .if1 .left)))
+write-message-spec =
+    tie.close
+    (tie.spec
+    (λ c. λ κs. search needs) (λ c. λ κs. search needs) returns (λ c. λ κs. search needs) (λ c. search needs) returns-2
+    (λ c. bad-as (Received _) _ _ (c .before .message-ok .ensures) (c .if1 .left)))

@@ -1,7 +1,7 @@
 use borrow.Author.Needs.{needs}
 use native.Mathlib.Omega.{arith}
 use Rattle.rows.specs.declared.Event.the-variants.{Opening}
-use Rattle.files.proofs.Writes.{sizes, bad-as, narrow-as, whole-as}
+use Rattle.files.proofs.Puts.{sizes, bad-as, narrow-as, whole-as}
 use Rattle.files.proofs.write.write_opening.Statement.{statement}
 use Rattle.files.proofs.write.write_opening.Tie as tie
 
@@ -17,4 +17,8 @@ returns-2 c =
     whole-as (Opening _ _ _) _ _ _ (s .before .opening-ok .ensures) (s .if1 .taken) (sizes .0) _ _ (omega arith) (p .put-opening .ensures)
 
 pub write-opening-spec : {M : Type 1} → statement M
-write-opening-spec = tie.close (tie.spec (λ c. λ κs. search needs) returns (λ c. λ κs. search needs) (λ c. search needs) returns-2 (λ c. bad-as (Opening _ _ _) _ _ (c .before .opening-ok .ensures) (c .if1 .left)))
+write-opening-spec =
+    tie.close
+    (tie.spec
+    (λ c. λ κs. search needs) returns (λ c. λ κs. search needs) (λ c. search needs) returns-2
+    (λ c. bad-as (Opening _ _ _) _ _ (c .before .opening-ok .ensures) (c .if1 .left)))

@@ -1,4 +1,4 @@
--- What the writer's functions store is what its definitions say: bytes of a number, fields, records; and what is answered and left.
+-- What the writer's functions put is what its definitions say: bytes of a number, fields, records; and what is answered and left.
 -- Assumes nothing.
 use mathlib.Core.Bool.{Bool, true, false}
 use mathlib.Core.Path.{_≡_, refl, sym, ap, _∙_}
@@ -19,16 +19,18 @@ use Rattle.rows.specs.declared.Event.{Event}
 use Rattle.rows.specs.declared.Event.the-variants.{Opening, Ask, Received, FromAccess, Expiry, Time}
 use Rattle.rows.specs.declared.Message.{Message}
 use Rattle.rows.specs.declared.Number.{Number}
-use Rattle.files.specs.Bodies.{componentOf, codeOf, itemOf, numberValues, frontValues, carriedValues, kindOf, fieldsOf, valuesOf, headOf, recordOf}
+use Rattle.files.specs.Bodies.{componentOf, codeOf, itemOf, numberValues, frontValues, carriedValues, kindOf, fieldsOf, valuesOf}
+use Rattle.files.specs.Bodies.{headOf, recordOf}
 use Rattle.files.specs.Bytes.{leOf, part}
-use Rattle.files.specs.Fields.{numberFields, openingFields, askFields, frontFields, carriedFields, messageFields, accessFields, expiryFields, timeFields}
+use Rattle.files.specs.Fields.{numberFields, openingFields, askFields, frontFields, carriedFields, messageFields, accessFields}
+use Rattle.files.specs.Fields.{expiryFields, timeFields}
 use Rattle.files.specs.Fields.{sizeOf, bytesOf}
 use Rattle.files.specs.Frames.{lengthWith, lengthOf}
 use Rattle.files.specs.Write.{writtenOf, leftOf, numberOf, messageWith}
 use Rattle.files.specs.declared.Written.{Written}
 use Rattle.files.specs.declared.Written.the-variants.{Whole, BadField, NoRoom}
 use Rattle.files.proofs.BothWays.{record-length}
-use Rattle.files.proofs.Records.{message-size}
+use Rattle.files.proofs.Records.{not-one, message-size}
 
 -- ---- the bytes of a number
 
@@ -82,7 +84,8 @@ bytes-join (w ∷ ws) us (v ∷ vs) xs h =
     ap (λ (t : List ℕ). leOf w v ++ t) (bytes-join ws us vs xs (omega arith)) ∙ sym (append-assoc (leOf w v) (bytesOf ws vs) (bytesOf us xs))
 
 -- fields, and the fields behind them
-put-fields : {l₀ l₁ l₂ : List ℕ} {i j k : ℕ} (ws us vs xs : List ℕ) → length ws ≡ length vs → Put l₀ i (bytesOf ws vs) l₁ j → Put l₁ j (bytesOf us xs) l₂ k
+put-fields : {l₀ l₁ l₂ : List ℕ} {i j k : ℕ} (ws us vs xs : List ℕ) → length ws ≡ length vs → Put l₀ i (bytesOf ws vs) l₁ j
+    → Put l₁ j (bytesOf us xs) l₂ k
     → Put l₀ i (bytesOf (ws ++ us) (vs ++ xs)) l₂ k
 put-fields ws us vs xs h p q = put-as (sym (bytes-join ws us vs xs h)) (put-after q p)
 
@@ -92,24 +95,23 @@ number-as l₀ l₁ l₂ i j k n p q = put-field 1 (n .count) (8 ∷ []) (n .val
 
 -- a number, or a duration, that is there or not: present is 1 or 0
 module _ (l new : List ℕ) (i j present : ℕ) where
-  pub number-put : (n : Number) → present ≡ 1 → Put l i (bytesOf (numberFields 1) (numberValues n)) new j → Put l i (bytesOf (numberFields present) (numberValues n)) new j
+  pub number-put : (n : Number) → present ≡ 1 → Put l i (bytesOf (numberFields 1) (numberValues n)) new j
+      → Put l i (bytesOf (numberFields present) (numberValues n)) new j
   number-put n e p = put-as (ap (λ (k : ℕ). bytesOf (numberFields k) (numberValues n)) (sym e)) p
 
   pub duration-put : (v : ℕ) → present ≡ 1 → Put l i (leOf 4 v) new j → Put l i (leOf (4 * present) v) new j
   duration-put v e p = put-as (ap (λ (k : ℕ). leOf (4 * k) v) (sym e)) p
 
 module _ (l : List ℕ) (i : ℕ) where
-  pub number-not-put : (n : Number) (present : ℕ) → present < 2 → (present ≡ 1 → ⊥) → Put l i (bytesOf (numberFields present) (numberValues n)) l i
+  pub number-not-put : (n : Number) (present : ℕ) → present < 2 → (present ≡ 1 → ⊥)
+      → Put l i (bytesOf (numberFields present) (numberValues n)) l i
   unfolding bytesOf leOf
-  number-not-put n zero g h = put-none l i
-  number-not-put n (suc zero) g h = absurd (h refl)
-  number-not-put n (suc (suc k)) g h = absurd (omega arith)
+  number-not-put n present g h =
+      put-as {s = bytesOf (numberFields 0) (numberValues n)} (ap (λ (k : ℕ). bytesOf (numberFields k) (numberValues n)) (not-one present g h)) (put-none l i)
 
   pub duration-not-put : (v present : ℕ) → present < 2 → (present ≡ 1 → ⊥) → Put l i (leOf (4 * present) v) l i
   unfolding leOf
-  duration-not-put v zero g h = put-none l i
-  duration-not-put v (suc zero) g h = absurd (h refl)
-  duration-not-put v (suc (suc k)) g h = absurd (omega arith)
+  duration-not-put v present g h = put-as {s = leOf (4 * 0) v} (ap (λ (k : ℕ). leOf (4 * k) v) (not-one present g h)) (put-none l i)
 
 -- ---- records
 
@@ -121,7 +123,8 @@ length-three parts = refl
 pub message-length : (parts : ℕ) → lengthOf 3 parts ≡ 7 + 9 * part parts 16 + 9 * part parts 32 + 4 * part parts 64
 message-length parts = length-three parts ∙ sym (message-size parts)
 
-pub head-as : (l₀ l₁ l₂ : List ℕ) (i j len kind : ℕ) → Put l₀ 0 (leOf 2 len) l₁ i → Put l₁ i (leOf 2 kind) l₂ j → Put l₀ 0 (headOf len kind) l₂ j
+pub head-as : (l₀ l₁ l₂ : List ℕ) (i j len kind : ℕ) → Put l₀ 0 (leOf 2 len) l₁ i → Put l₁ i (leOf 2 kind) l₂ j
+    → Put l₀ 0 (headOf len kind) l₂ j
 unfolding headOf
 head-as l₀ l₁ l₂ i j len kind p q = put-after q p
 
@@ -161,7 +164,8 @@ module _ (l₀ l₁ : List ℕ) (i : ℕ) where
           (put-fields frontFields (carriedFields (m .parts)) (frontValues m) (carriedValues m) refl q r)
 
       pub opening-as : (l₄ : List ℕ) (n role flags : ℕ) (own : Number) → Put l₀ 0 (headOf 13 1) l₁ i → Put l₁ i (leOf 1 role) l₂ j
-          → Put l₂ j (leOf 1 flags) l₃ k → Put l₃ k (bytesOf (numberFields 1) (numberValues own)) l₄ n → Put l₀ 0 (recordOf (Opening role flags own)) l₄ n
+          → Put l₂ j (leOf 1 flags) l₃ k → Put l₃ k (bytesOf (numberFields 1) (numberValues own)) l₄ n
+          → Put l₀ 0 (recordOf (Opening role flags own)) l₄ n
       unfolding sizeOf
       opening-as l₄ n role flags own p q r s =
           put-record (Opening role flags own) p
@@ -178,7 +182,8 @@ carried-as l₀ l₁ l₂ l₃ i j k n p q r v calling called a b c =
     (put-fields (numberFields p) (numberFields q) (numberValues calling) (numberValues called) refl a b) (put-last (4 * r) v c)
 
 -- the first five bytes of a message; code and item are its component's
-pub front-as : {l₀ l₁ l₂ l₃ l₄ l₅ : List ℕ} {h i j k n o code item : ℕ} (m : Message) → code ≡ codeOf (m .component) → item ≡ itemOf (m .component)
+pub front-as : {l₀ l₁ l₂ l₃ l₄ l₅ : List ℕ} {h i j k n o code item : ℕ} (m : Message) → code ≡ codeOf (m .component)
+    → item ≡ itemOf (m .component)
     → Put l₀ h (leOf 1 (m .kind)) l₁ i → Put l₁ i (leOf 1 (m .cause)) l₂ j → Put l₂ j (leOf 1 code) l₃ k → Put l₃ k (leOf 1 item) l₄ n
     → Put l₄ n (leOf 1 (m .parts)) l₅ o → Put l₀ h (bytesOf frontFields (frontValues m)) l₅ o
 front-as m e f a b c d g =
@@ -215,7 +220,8 @@ module _ (e : Event) (out : List ℕ) where
         let k : length out < length (recordOf e) = omega (arith, size) in
         (yes-so _ _ _ _ (sym g ∙ h) (yes-lt _ _ _ _ _ k refl), yes-so _ _ _ _ (sym g ∙ h) (yes-lt _ _ _ _ _ k refl))
 
-    pub whole-as : (new : List ℕ) (r : ℕ) → n ≤ length out → Put out 0 (recordOf e) new r → (Whole r ≡ writtenOf e out) × (new ≡ leftOf e out)
+    pub whole-as : (new : List ℕ) (r : ℕ) → n ≤ length out → Put out 0 (recordOf e) new r
+        → (Whole r ≡ writtenOf e out) × (new ≡ leftOf e out)
     unfolding writtenOf leftOf
     whole-as new r f p =
         let k : length (recordOf e) ≤ length out = omega (arith, size) in
@@ -226,8 +232,14 @@ module _ (e : Event) (out : List ℕ) where
         )
 
 -- the event that was matched
-pub matched-as : (e f : Event) (out new : List ℕ) (w : Written) → e ≡ f → (w ≡ writtenOf f out) × (new ≡ leftOf f out) → (w ≡ writtenOf e out) × (new ≡ leftOf e out)
+pub matched-as : (e f : Event) (out new : List ℕ) (w : Written) → e ≡ f → (w ≡ writtenOf f out) × (new ≡ leftOf f out)
+    → (w ≡ writtenOf e out) × (new ≡ leftOf e out)
 matched-as e f out new w g (a, b) = (a ∙ ap (λ (x : Event). writtenOf x out) (sym g), b ∙ ap (λ (x : Event). leftOf x out) (sym g))
+
+-- the number of what was answered
+pub numbered-as : (e : Event) (out new : List ℕ) (w : Written) (r : ℕ) → r ≡ numberOf w → (w ≡ writtenOf e out) × (new ≡ leftOf e out)
+    → (r ≡ numberOf (writtenOf e out)) × (new ≡ leftOf e out)
+numbered-as e out new w r f (a, b) = (f ∙ ap numberOf a, b)
 
 -- a message by its fields, with the component that was made of code and item
 pub message-made : (kind cause code item parts duration r : ℕ) (component : Component) (calling called : Number) (out new : List ℕ) (w : Written)
