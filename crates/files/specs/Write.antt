@@ -1,5 +1,5 @@
--- The writer of events: what it answers, and what the lent buffer then holds. 02 #102: "A field out of range is refused with the lent buffer
--- unchanged, and so is a record longer than the room in it. Refusals: 3, then 8."
+-- The writer of events: what it answers, and what the lent buffer then holds. 02 #102: "A field out of range is refused with the lent
+-- buffer unchanged, and so is a record longer than the room in it. Refusals: 3, then 8."
 -- Assumes nothing.
 use mathlib.Core.List.{List, _++_}
 use Prim.Native.Nat.{ℕ}

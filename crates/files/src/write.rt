@@ -236,7 +236,8 @@ fn write_opening(role: u8, flags: u8, own: Number, out: &mut [u8]) -> Written
 }
 
 fn write_ask(item: u8, called: Number, out: &mut [u8]) -> Written
-    ensures { λ w. ⌜ (w ≡ writtenOf (Ask item called) (now (out .entry))) × (now (out .exit) ≡ leftOf (Ask item called) (now (out .entry))) ⌝ }
+    ensures { λ w. ⌜ (w ≡ writtenOf (Ask item called) (now (out .entry)))
+        × (now (out .exit) ≡ leftOf (Ask item called) (now (out .entry))) ⌝ }
 {
     if rows::ask_ok(item, called) {
         if out.len() < 14 {
@@ -361,10 +362,12 @@ pub extern "C" fn rev_write_message(
     out: &mut [u8],
 ) -> u32
     ensures { λ r. ⌜ (r ≡ numberOf (writtenOf
-        (messageWith message cause component item parts (numberWith callingcount callingvalue) (numberWith calledcount calledvalue) duration)
+        (messageWith message cause component item parts
+        (numberWith callingcount callingvalue) (numberWith calledcount calledvalue) duration)
         (now (out .entry))))
         × (now (out .exit) ≡ leftOf
-        (messageWith message cause component item parts (numberWith callingcount callingvalue) (numberWith calledcount calledvalue) duration)
+        (messageWith message cause component item parts
+        (numberWith callingcount callingvalue) (numberWith calledcount calledvalue) duration)
         (now (out .entry))) ⌝ }
 {
     let calling = Number {
