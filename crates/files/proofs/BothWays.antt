@@ -32,7 +32,7 @@ use Rattle.files.specs.Shown.{whole, Contents, andThen, contentsFrom, co
 use Rattle.files.specs.declared.Frame.{Frame}
 use Rattle.files.specs.declared.Read.{Read}
 use Rattle.files.proofs.Records.{le-one}
-use Rattle.files.proofs.Stored.{AllBytes, Fits, Holds, holds-between, fields-length, fields-back, fields-again}
+use Rattle.files.proofs.Stored.{AllBytes, Fits, Holds, holds-between, le-within, fields-length, fields-back, fields-again, fields-bytes}
 
 -- ---- an event whose fields are numbers of their types (crates/rows/src/lib.rt), as every event of a program is. In range, that says
 -- something of an error number and of a Duration alone: a range bounds every other field.
@@ -379,6 +379,56 @@ read-stands : (s : List ℕ) (at : ℕ) → AllBytes s → ReadStands s at (read
 unfolding readAt
 read-stands s at a = both-le _ _ (ReadStands s at) _ _ (λ h. h) (λ _. by-frame s at (frameAt s at) (frame-stands s at a))
 
+-- ---- an event that is read of bytes has numbers of their types
+
+module _ (s : List ℕ) (a : AllBytes s) where
+  number-typed : (i present : ℕ) → present < 2 → (leAt present s i < 256) × (leAt (8 * present) s (i + present) < 2 ^ 64)
+  number-typed i present h =
+      (le-within present 1 s i (omega arith) a, le-within (8 * present) 8 s (i + present) (omega arith) a)
+
+  message-typed : (b : ℕ) → Typed (Received (messageAt s b))
+  unfolding messageAt valuesAt
+  message-typed b =
+      let p = byteAt s (b + 4) in
+      let i : ℕ = b + 1 + 1 + 1 + 1 + 1 in
+      let j : ℕ = i + part p 16 + 8 * part p 16 in
+      let k : ℕ = j + part p 32 + 8 * part p 32 in
+      let code : leAt 1 s (b + 1 + 1) < 256 = le-within 1 1 s (b + 1 + 1) (omega arith) a in
+      let item : leAt 1 s (b + 1 + 1 + 1) < 256 = le-within 1 1 s (b + 1 + 1 + 1) (omega arith) a in (
+        le-within 1 1 s b (omega arith) a,
+        le-within 1 1 s (b + 1) (omega arith) a,
+        rw (code-again (leAt 1 s (b + 1 + 1)) (leAt 1 s (b + 1 + 1 + 1))) code,
+        rw (item-again (leAt 1 s (b + 1 + 1)) (leAt 1 s (b + 1 + 1 + 1))) item,
+        le-within 1 1 s (b + 1 + 1 + 1 + 1) (omega arith) a,
+        number-typed i (part p 16) (omega arith),
+        number-typed j (part p 32) (omega arith),
+        le-within (4 * part p 64) 4 s k (omega arith) a,
+      )
+
+  event-typed : (b kind : ℕ) → Typed (eventAt s b kind)
+  unfolding eventAt openingAt askAt accessAt timeAt valuesAt
+  event-typed b kind =
+      both-eq kind 1 Typed _ _
+      (λ _. (le-within 1 1 s b (omega arith) a, le-within 1 1 s (b + 1) (omega arith) a, number-typed (b + 1 + 1) 1 (omega arith))) λ _.
+      both-eq kind 2 Typed _ _ (λ _. (le-within 1 1 s b (omega arith) a, number-typed (b + 1) 1 (omega arith))) λ _.
+      both-eq kind 3 Typed _ _ (λ _. message-typed b) λ _.
+      both-eq kind 4 Typed _ _ (λ _. (le-within 1 1 s b (omega arith) a, le-within 1 1 s (b + 1) (omega arith) a)) λ _.
+      both-eq kind 5 Typed _ _ (λ _. tt) λ _.
+      le-within 4 4 s b (omega arith) a
+
+abbrev ReadTyped : Read → Type 0
+ReadTyped Read.End = Unit {0}
+ReadTyped (Read.Stop n) = Unit {0}
+ReadTyped (Read.Got e next) = Typed e
+
+frame-typed : (s : List ℕ) (at : ℕ) → AllBytes s → (f : Frame) → ReadTyped (readBy s at f)
+frame-typed s at a (Frame.Stop n) = tt
+frame-typed s at a (Frame.Body kind next) = event-typed s a (at + 4) kind
+
+found-typed : (s : List ℕ) (at : ℕ) → AllBytes s → ReadTyped (readAt s at)
+unfolding readAt
+found-typed s at a = both-le _ _ ReadTyped _ _ (λ _. tt) (λ _. frame-typed s at a (frameAt s at))
+
 -- ---- a file of events is read record by record
 
 past-last : (s : List ℕ) (at : ℕ) → length s ≤ at → readAt s at ≡ Read.End
@@ -451,6 +501,13 @@ first-reads-back e k t q = written-reads-back e k t [] q ∙ ap (Read.Got e) (ze
 pub read-writes-back : (s : List ℕ) → AllBytes s → (at next : ℕ) (e : Event) → readAt s at ≡ Read.Got e next
     → (recordOf e ≡ take (next - at) (drop at s)) × (next ≡ at + length (recordOf e))
 read-writes-back s a at next e r = subst (ReadStands s at) r (read-stands s at a)
+
+-- So what is read of bytes has numbers of their types, and what is written is bytes: neither has to be asked for where one follows the other.
+pub read-typed : (s : List ℕ) → AllBytes s → (at next : ℕ) (e : Event) → readAt s at ≡ Read.Got e next → Typed e
+read-typed s a at next e r = subst ReadTyped r (found-typed s at a)
+
+pub record-bytes : (e : Event) → AllBytes (recordOf e)
+record-bytes e = subst AllBytes (sym (record-as e)) (fields-bytes (2 ∷ 2 ∷ fieldsOf e) (lengthWith (fieldsOf e) ∷ kindOf e ∷ valuesOf e))
 
 -- Two events in range whose records begin a file alike are one event: no record is the beginning of another's.
 pub same-bytes-same-event : (e f : Event) → eventOk e ≡ true → Typed e → eventOk f ≡ true → Typed f → (q r : List ℕ)

@@ -3,7 +3,7 @@
 use mathlib.Core.Path.{_≡_, refl, sym, ap, ap₂, _∙_}
 use mathlib.Core.List.{List, [], _∷_, _++_}
 use Prim.Native.Nat.{ℕ, zero, suc, _+_, _*_, _/_, _%_, _^_, _≤_, _<_}
-use native.Mathlib.Nat.{add-zero, add-assoc, pow-suc}
+use native.Mathlib.Nat.{add-zero, add-assoc, pow-suc, pow-le-pow-right}
 use native.Mathlib.Omega.{arith}
 use lib.ListN.{length, getD, take, drop, length-append, List·getD-append}
 use lib.Seq.{getD-append-add, drop-cons, drop-drop, take-add}
@@ -52,6 +52,20 @@ holds-between p t q j h =
     List·getD-append (p ++ t) q 0 (length p + j) (omega arith) ∙ getD-append-add p t j 0
 
 -- ---- a number
+
+-- what is written is bytes, and what is read of bytes has room in as many
+pub le-bytes : (w v : ℕ) → AllBytes (leOf w v)
+unfolding leOf
+le-bytes zero v = tt
+le-bytes (suc w) v = (omega arith, le-bytes w (v / 256))
+
+le-below : (w : ℕ) (s : List ℕ) (i : ℕ) → AllBytes s → leAt w s i < 256 ^ w
+unfolding leAt
+le-below zero s i a = omega arith
+le-below (suc w) s i a = let p = pow-suc 256 w in let b = byte-small s i a in let r = le-below w s (i + 1) a in omega arith
+
+pub le-within : (w k : ℕ) (s : List ℕ) (i : ℕ) → w ≤ k → AllBytes s → leAt w s i < 256 ^ k
+le-within w k s i h a = let p : 256 ^ w ≤ 256 ^ k = pow-le-pow-right (omega arith) h in let r = le-below w s i a in omega arith
 
 pub le-length : (w v : ℕ) → length (leOf w v) ≡ w
 unfolding leOf
@@ -105,3 +119,14 @@ fields-again (w ∷ ws) s i a h =
     ap₂ (λ (t u : List ℕ). t ++ u) (le-again w s i a (omega arith))
     (fields-again ws s (i + w) a (omega arith) ∙ ap (take (sizeOf ws)) (sym (drop-drop w i s)))
     ∙ sym (take-add w (sizeOf ws) (drop i s))
+
+-- the fields of a body are bytes
+bytes-join : (a b : List ℕ) → AllBytes a → AllBytes b → AllBytes (a ++ b)
+bytes-join [] b g h = h
+bytes-join (x ∷ a) b g h = (g .0, bytes-join a b (g .1) h)
+
+pub fields-bytes : (ws vs : List ℕ) → AllBytes (bytesOf ws vs)
+unfolding bytesOf
+fields-bytes [] vs = tt
+fields-bytes (w ∷ ws) [] = tt
+fields-bytes (w ∷ ws) (v ∷ vs) = bytes-join (leOf w v) (bytesOf ws vs) (le-bytes w v) (fields-bytes ws vs)

@@ -109,6 +109,14 @@ pub read-writes-back : (s : List ℕ) → AllBytes s → (at next : ℕ) (e : Ev
     (recordOf e ≡ take (next - at) (drop at s)) × (next ≡ at + length (recordOf e))
 read-writes-back = BothWays.read-writes-back
 
+-- What is read of bytes has numbers of their types, and what is written is bytes: so after a reading, or a writing, neither has to be asked
+-- for.
+pub read-typed : (s : List ℕ) → AllBytes s → (at next : ℕ) (e : Event) → readAt s at ≡ Read.Got e next → Typed e
+read-typed = BothWays.read-typed
+
+pub record-bytes : (e : Event) → AllBytes (recordOf e)
+record-bytes = BothWays.record-bytes
+
 -- Two events that write the same bytes are the same event, and no record is the beginning of another's.
 pub same-bytes-same-event : (e f : Event) → eventOk e ≡ true → Typed e → eventOk f ≡ true → Typed f → (q r : List ℕ) →
     recordOf e ++ q ≡ recordOf f ++ r → e ≡ f
