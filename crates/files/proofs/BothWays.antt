@@ -27,42 +27,13 @@ use Rattle.files.specs.Fields.{messageFields, sizeOf, valuesAt, bytesOf}
 use Rattle.files.specs.Frames.{lengthWith, lengthOf, frameOf, frameAt}
 use Rattle.files.specs.Bodies.{componentOf, codeOf, itemOf, kindOf, fieldsOf, valuesOf, headOf, recordOf, eventAt, readBy, readAt}
 use Rattle.files.specs.Bodies.{openingFrom, askFrom, messageFrom, accessFrom, timeFrom, openingAt, askAt, messageAt, accessAt, timeAt}
+use Rattle.files.specs.Typed.{AllBytes, TypedNumber, Typed, fileOf, Writable}
 use Rattle.files.specs.Write.{numberWith, messageWith}
 use Rattle.files.specs.Shown.{whole, Contents, andThen, contentsFrom, contentsOf, eventsOf}
 use Rattle.files.specs.declared.Frame.{Frame}
 use Rattle.files.specs.declared.Read.{Read}
 use Rattle.files.proofs.Records.{le-one}
-use Rattle.files.proofs.Stored.{AllBytes, Fits, Holds, holds-between, le-within, fields-length, fields-back, fields-again, fields-bytes}
-
--- ---- an event whose fields are numbers of their types (crates/rows/src/lib.rt), as every event of a program is. In range, that says
--- something of an error number and of a Duration alone: a range bounds every other field.
-
-abbrev pub TypedNumber : Number → Type 0
-TypedNumber n = (n .count < 256) × (n .value < 2 ^ 64)
-
-abbrev pub TypedMessage : Message → Type 0
-TypedMessage m =
-    (m .kind < 256) × (m .cause < 256) × (codeOf (m .component) < 256) × (itemOf (m .component) < 256) × (m .parts < 256)
-    × TypedNumber (m .calling) × TypedNumber (m .called) × (m .duration < 2 ^ 32)
-
-abbrev pub Typed : Event → Type 0
-Typed (Opening role flags own) = (role < 256) × (flags < 256) × TypedNumber own
-Typed (Ask item called) = (item < 256) × TypedNumber called
-Typed (Received m) = TypedMessage m
-Typed (FromAccess item error) = (item < 256) × (error < 256)
-Typed Expiry = Unit {0}
-Typed (Time seconds) = seconds < 2 ^ 32
-
--- ---- a file of events: their records one after another
-
-abbrev pub fileOf : List Event → List ℕ
-fileOf [] = []
-fileOf (e ∷ es) = recordOf e ++ fileOf es
-
--- each is in range, and its fields are numbers of their types
-abbrev pub Writable : List Event → Type 0
-Writable [] = Unit {0}
-Writable (e ∷ es) = (eventOk e ≡ true) × Typed e × Writable es
+use Rattle.files.proofs.Stored.{Fits, Holds, holds-between, le-within, fields-length, fields-back, fields-again, fields-bytes}
 
 -- ---- its values have room in its fields
 

@@ -16,13 +16,13 @@ use Rattle.files.specs.Bodies.{kindOf, fieldsOf, valuesOf, headOf, recor
 use Rattle.files.specs.Bytes.{leAt, leOf}
 use Rattle.files.specs.Fields.{bytesOf}
 use Rattle.files.specs.Frames.{lengthWith}
+use Rattle.files.specs.Typed.{AllBytes, Typed}
 use Rattle.files.specs.Write.{writtenOf, leftOf, numberOf, bytesWritten}
 use Rattle.files.specs.declared.Read.{Read}
 use Rattle.files.specs.declared.Written.{Written}
 use Rattle.files.specs.declared.Written.the-variants.{Whole}
-use Rattle.files.proofs.BothWays.{Typed, record-length, record-range, first-reads-back, read-writes-back}
+use Rattle.files.proofs.BothWays.{record-length, record-range, first-reads-back, read-writes-back}
 use Rattle.files.proofs.Same.{Wrote, Numbered}
-use Rattle.files.proofs.Stored.{AllBytes}
 
 -- A writer gave r for the event e, and left the buffer `new` where `old` was
 pub record Writes (e : Event) (old : List ℕ) (r : ℕ) (new : List ℕ) : Type 0 where

@@ -9,7 +9,6 @@ use lib.ListN.{length, List·getD-eq-default}
 use Rattle.rows.specs.declared.Component.{Component}
 use Rattle.rows.specs.declared.Event.{Event}
 use Rattle.rows.specs.declared.Event.the-variants.{Opening, Ask, FromAccess, Time}
-use Rattle.rows.specs.declared.Message.{Message}
 use Rattle.rows.specs.declared.Number.{Number}
 use Rattle.text.proofs.Cases.{no-le, both-lt, both-le, both-eq}
 use Rattle.files.specs.Bytes.{byteAt, leAt, part}

@@ -1,7 +1,7 @@
 -- Worked records, one kind after another: the bytes that the writer has for an event, the event that the reader has for the bytes, and each
 -- refusal with the buffer that it leaves. The definitions compute.
 -- Assumes nothing.
-use mathlib.Core.List.{List, [], _∷_}
+use mathlib.Core.List.{[], _∷_}
 use mathlib.Core.Path.{_≡_, refl}
 use Prim.Native.Nat.{ℕ}
 use Rattle.text.specs.Choose.{ifLt, ifLe, ifEq, ifSo}

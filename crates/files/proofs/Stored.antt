@@ -9,11 +9,7 @@ use lib.ListN.{length, getD, take, drop, length-append, List·getD-append}
 use lib.Seq.{getD-append-add, drop-cons, drop-drop, take-add}
 use Rattle.files.specs.Bytes.{byteAt, leAt, leOf}
 use Rattle.files.specs.Fields.{sizeOf, valuesAt, bytesOf}
-
--- each is a byte
-abbrev pub AllBytes : List ℕ → Type 0
-AllBytes [] = Unit {0}
-AllBytes (x ∷ xs) = (x < 256) × AllBytes xs
+use Rattle.files.specs.Typed.{AllBytes}
 
 -- as many values as fields, and each value has room in its field
 abbrev pub Fits : List ℕ → List ℕ → Type 0

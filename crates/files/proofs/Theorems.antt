@@ -1,7 +1,7 @@
 -- THE THEOREMS about files, each with its sentence, to be read alone. What they speak of is defined in specs/: Listing.antt and Dump.antt
 -- (`listingOf`, `dumpOf`: the bytes of the two texts), Fit.antt (`answers`, `leaves`: what a host is given), Shown.antt (the records that
--- a file shows), Bodies.antt (`readAt`, `recordOf`: a record's event and an event's record), Write.antt (`writtenOf`, `leftOf`). Contracts.antt
--- ties them to the contracts of the functions; the theorems about the rows are in crates/rows.
+-- a file shows), Bodies.antt (`readAt`, `recordOf`: a record's event and an event's record), Write.antt (`writtenOf`, `leftOf`),
+-- Typed.antt. Contracts.antt ties them to the contracts of the functions; the theorems about the rows are in crates/rows.
 -- Assumes nothing.
 use mathlib.Core.List.{List, [], _∷_, _++_}
 use mathlib.Core.Logic.{_↔_, _⊎_}
@@ -13,7 +13,7 @@ use native.Mathlib.Omega.{arith}
 use borrow.Author.Tests.{eqb-false}
 use lib.ListN.{length, take, drop, getElem?}
 use Rattle.rows.specs.History.{run}
-use Rattle.rows.specs.Step.{stepOf, unopenedCall}
+use Rattle.rows.specs.Step.{unopenedCall}
 use Rattle.rows.specs.Valid.{eventOk}
 use Rattle.rows.specs.declared.Event.{Event}
 use Rattle.rows.proofs.Payers.{ten-for-the-unpaid, paid-on}
@@ -23,6 +23,7 @@ use Rattle.files.specs.Dump.{dumpOf}
 use Rattle.files.specs.Fit.{answers}
 use Rattle.files.specs.Listing.{listingOf}
 use Rattle.files.specs.Shown.{whole, contentsOf, eventsOf, Shown, shownOf}
+use Rattle.files.specs.Typed.{AllBytes, Typed, Writable, fileOf}
 use Rattle.files.specs.Write.{writtenOf, leftOf, numberOf, bytesWritten, numberWith, messageWith}
 use Rattle.files.specs.declared.Read.{Read}
 use Rattle.files.specs.declared.Written.{Written}
@@ -30,13 +31,11 @@ use Rattle.files.specs.declared.Written.the-variants.{Whole}
 use Rattle.files.proofs.Billed
 use Rattle.files.proofs.Billed.{Gets, Line}
 use Rattle.files.proofs.BothWays
-use Rattle.files.proofs.BothWays.{Typed, Writable, fileOf}
 use Rattle.files.proofs.Eight
 use Rattle.files.proofs.GivenBack.{numbers-hold}
 use Rattle.files.proofs.HostWrites
 use Rattle.files.proofs.HostWrites.{Writes}
 use Rattle.files.proofs.Same.{Fitted, Wrote, Numbered}
-use Rattle.files.proofs.Stored.{AllBytes}
 
 -- ---- From the bytes to the bill
 

@@ -10,5 +10,6 @@ pub mod Listing
 pub mod Messages
 pub mod Places
 pub mod Shown
+pub mod Typed
 pub mod Words
 pub mod Write

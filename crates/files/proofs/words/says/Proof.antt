@@ -2,14 +2,13 @@
 -- Assumes nothing.
 use mathlib.Core.Path.{_≡_, sym, ap, _∙_}
 use mathlib.Core.List.{List}
-use Prim.Native.Nat.{ℕ, _≤_, _+_}
+use Prim.Native.Nat.{ℕ, _≤_}
 use native.Mathlib.Nat.{zero-add}
 use native.Mathlib.Omega.{arith}
 use borrow.Author.Needs.{needs}
-use lib.ListN.{length, take, drop}
+use lib.ListN.{length, take}
 use lib.Seq.{sets-eq, take-at, length-take-le}
 use Rattle.text.specs.Text.{Put}
-use Rattle.text.proofs.Laws.{put-length}
 use Rattle.files.proofs.words.says.Statement.{statement}
 use Rattle.files.proofs.words.says.Tie as tie
 
