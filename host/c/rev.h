@@ -67,16 +67,19 @@ size_t rev_dump(const uint8_t *file, size_t file_len, uint8_t *out, size_t out_l
  * Each of these writes the record of one event at the start of the out_len bytes at `out`: kinds 1 to 6 of docs/FORMAT.md in their order,
  * with the fields in the order of the record. A telephone number is a count of digits and a value; where none is wanted (request 2 and 3;
  * a part that is not named) both are 0, and so is a Duration that the parts do not name. `item` is the operation or the error number of
- * the component, else 0.
+ * the component, else 0; `told` is what the own access tells, 1 to 5.
  *
  *   REV_WRITTEN      the record stands at `out`, and bytes past it are as they were; rev_record_length tells how long it is
  *   REV_BAD_FIELD    a field is out of its range, or a number or Duration is there that the event does not name
  *   REV_TOO_LONG     all fields are in range, and the record has more than out_len bytes
  *
- * The number is the low byte of what they give; the rest is 0. On both refusals every byte of `out` is as it was. What they write, the
+ * The number is the low byte of what they give: compare that alone. The rest is 0. On both refusals every byte of `out` is as it was. What they write, the
  * listing and the dump read back as the same event.
  *
- * This holds for any fields and any length, 0 among them. What they ask: `out` is not null, even at length 0, and out_len bytes are there
+ * This holds for any fields and any length, 0 among them. But C passes a number that is too large for its parameter's type without its high
+ * bits, and none sees it: 256 as a count arrives as 0, 4294967356 seconds as 60. Look before you pass it (-Wconversion warns).
+ *
+ * What they ask: `out` is not null, even at length 0, and out_len bytes are there
  * to be written; none outside is touched. They too keep nothing between calls, allocate nothing and call nothing.
  *
  * The promise is proved of crates/files/src/write.rt. That these declarations fit it is tested (test.c) and not proved.

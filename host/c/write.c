@@ -1,5 +1,5 @@
 /*
- * A host: writes the events of a call to an event file, as they come, and prints its listing.
+ * A host: writes the events of a call one after another, saves them as an event file, and prints its listing.
  *
  *   write FILE
  *
@@ -26,7 +26,7 @@ static int add(struct journal *journal, uint32_t given, const uint8_t *record)
     size_t length;
 
     if (given != REV_WRITTEN) {
-        fprintf(stderr, "a record is refused with %u\n", (unsigned)given);
+        fprintf(stderr, "a record is refused with %u\n", (unsigned)(given & 0xFFu));
         return 0;
     }
     length = rev_record_length(record);

@@ -2,6 +2,7 @@
 -- (`listingOf`, `dumpOf`: the bytes of the two texts), Fit.antt (`answers`, `leaves`: what a host is given), Shown.antt (the records that
 -- a file shows), Bodies.antt (`readAt`, `recordOf`: a record's event and an event's record), Write.antt (`writtenOf`, `leftOf`),
 -- Typed.antt. Contracts.antt ties them to the contracts of the functions; the theorems about the rows are in crates/rows.
+-- What a host gets is spelled out in HostWrites.antt (`Writes`), Billed.antt (`Gets`, `Line`) and Same.antt (`Fitted`, `Wrote`, `Numbered`).
 -- Assumes nothing.
 use mathlib.Core.List.{List, [], _∷_, _++_}
 use mathlib.Core.Logic.{_↔_, _⊎_}

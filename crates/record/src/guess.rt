@@ -1,5 +1,5 @@
 // What event the words of a line say. The guess goes by the words that tell fields apart and looks at nothing else; the line is known if
-// the words of the event, as the dump has them, are the line. So a wrong guess can make a line unknown, and never another event.
+// the words of the event, as the dump has them, are the line. So a wrong guess makes a line unknown: an event that is known has its words.
 ghost use Prim.Native.Nat.{_≤_};
 ghost use Rattle.record.specs.Guess.{Right};
 use crate::Parsed;

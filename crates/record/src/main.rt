@@ -19,7 +19,7 @@ pub(crate) enum Parsed {
     Known(Event),
 }
 
-// Room for the dump of every file, which has at most 677,220 bytes, and for remarks; one byte more, so that a longer text is noticed.
+// Room for the dump of every file, which has fewer than 680,000 bytes, and for remarks; one byte more, so that a longer text is noticed.
 // (A function of its own: of an array that main makes, a proof would count the elements.)
 fn text_room() -> [u8; 1048577] {
     [0u8; 1048577]
