@@ -6,14 +6,7 @@ cd "$(dirname "$0")/.."
 who=dumps.sh count=300 seed=1
 # shellcheck source=tests/generated.inc
 . tests/generated.inc
-if ! command -v cargo >/dev/null; then
-    echo "dumps: skipped, there is no cargo here"
-    exit 0
-fi
-cargo build --quiet --release --offline --manifest-path host/reference/Cargo.toml --target-dir target/reference
-reference=target/reference/release/reference
-rm -rf target/dumps
-$reference generate --count "$count" --seed "$seed" --out target/dumps
+generate_files target/dumps
 failed=0
 for file in target/dumps/*.rev; do
     ./dump "$file" | $reference undump "$file" || failed=$((failed + 1))

@@ -8,15 +8,8 @@ cd "$(dirname "$0")/.."
 who=records.sh count=200 seed=1
 # shellcheck source=tests/generated.inc
 . tests/generated.inc
-if ! command -v cargo >/dev/null; then
-    echo "records: skipped, there is no cargo here"
-    exit 0
-fi
-cargo build --quiet --release --offline --manifest-path host/reference/Cargo.toml --target-dir target/reference
-reference=target/reference/release/reference
 room=target/records
-rm -rf $room
-$reference generate --count "$count" --seed "$seed" --out $room
+generate_files $room
 whole=0 parts=0 out=0 failed=0
 
 # told: what ./record is to tell of a dump, or nothing, by the listing. A record's line comes after the line that counts them.
