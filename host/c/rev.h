@@ -28,6 +28,9 @@ extern "C" {
 #define REV_WRITTEN 0u
 #define REV_BAD_FIELD 3u
 
+/* The number of what a writer gave. */
+#define REV_NUMBER(given) ((given) & 0xFFu)
+
 /* The most bytes that a record has, its two length bytes among them. In so much room no writer gives REV_TOO_LONG. */
 #define REV_RECORD 31u
 
@@ -73,14 +76,14 @@ size_t rev_dump(const uint8_t *file, size_t file_len, uint8_t *out, size_t out_l
  *   REV_BAD_FIELD    a field is out of its range, or a number or Duration is there that the event does not name
  *   REV_TOO_LONG     all fields are in range, and the record has more than out_len bytes
  *
- * The number is the low byte of what they give: compare that alone. The rest is 0. On both refusals every byte of `out` is as it was. What they write, the
- * listing and the dump read back as the same event.
+ * The number is the low byte of what they give (REV_NUMBER); the rest is 0. On both refusals every byte of `out` is as it was. What they
+ * write, the listing and the dump read back as the same event.
  *
  * This holds for any fields and any length, 0 among them. But C passes a number that is too large for its parameter's type without its high
- * bits, and none sees it: 256 as a count arrives as 0, 4294967356 seconds as 60. Look before you pass it (-Wconversion warns).
+ * bits, and none of them sees it: 256 as a count arrives as 0, 4294967356 seconds as 60. Look before you pass it (-Wconversion warns).
  *
- * What they ask: `out` is not null, even at length 0, and out_len bytes are there
- * to be written; none outside is touched. They too keep nothing between calls, allocate nothing and call nothing.
+ * What they ask: `out` is not null, even at length 0, and out_len bytes are there to be written; none outside is touched. They too keep
+ * nothing between calls, allocate nothing and call nothing.
  *
  * The promise is proved of crates/files/src/write.rt. That these declarations fit it is tested (test.c) and not proved.
  */

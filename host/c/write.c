@@ -25,8 +25,8 @@ static int add(struct journal *journal, uint32_t given, const uint8_t *record)
 {
     size_t length;
 
-    if (given != REV_WRITTEN) {
-        fprintf(stderr, "a record is refused with %u\n", (unsigned)(given & 0xFFu));
+    if (REV_NUMBER(given) != REV_WRITTEN) {
+        fprintf(stderr, "a record is refused with %u\n", (unsigned)REV_NUMBER(given));
         return 0;
     }
     length = rev_record_length(record);
