@@ -171,7 +171,7 @@ pub struct Told {
 }
 
 // A row of the clause, or the rows of one sentence that differ by flags, transfer or an error number alone.
-// The names O1 .. O40, D1 .. D56 and G1 .. G5 are those of docs/ROWS.md.
+// The names O1 .. O40, D1 .. D60 and G1 .. G5 are those of docs/ROWS.md.
 pub enum Row {
     // no row: 1
     NoRow,
