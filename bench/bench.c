@@ -26,8 +26,8 @@
  * The inputs are built here and are the same in every run:
  *
  *   call       an originating call with REV set up and answered, then over and over: time; a FAC with an invoke and
- *              own request B (both answered with error 12); a FAC with both numbers and a Duration, which has no row; a
- *              time out of range; an expiry, which has no row
+ *              own request B (both answered with error 12); a FAC with both numbers, one of them international, and a
+ *              Duration, which has no row; a time out of range; an expiry, which has no row
  *   messages   only messages of the longest form, 31 bytes, before the opening
  *   expiries   only expiries, 4 bytes, before the opening: the most lines that a file can give
  *
@@ -40,6 +40,7 @@
 #include "plain.h"
 #include "../host/c/rev.h"
 
+#include <stdbool.h>
 #include <stdio.h>
 #include <stdlib.h>
 #include <string.h>
@@ -96,9 +97,9 @@ static const struct record opening[] = {
     RECORD(7, 0, 3, 0, 2, 0, 2, 1, 0),                             /* ANM, result SETUP */
 };
 
-/* FAC, result CALLED, parts 2, 4, 16, 32 and 64 */
-#define LONGEST_MESSAGE                                                                                          \
-    RECORD(29, 0, 3, 0, 5, 0, 2, 3, 0x76, 7, 0x14, 0xB0, 0x54, 0, 0, 0, 0, 0, 15, 0xFF, 0x7F, 0xC6, 0xA4, 0x7E, \
+/* FAC, result CALLED, parts 2, 4, 16, 32 and 64, the called number international */
+#define LONGEST_MESSAGE                                                                                            \
+    RECORD(29, 0, 3, 0, 5, 0, 2, 3, 0x76, 7, 0x14, 0xB0, 0x54, 0, 0, 0, 0, 0, 0x8F, 0xFF, 0x7F, 0xC6, 0xA4, 0x7E, \
            0x8D, 3, 0, 0x3C, 0, 0, 0)
 
 static const struct record cycle[] = {
@@ -152,9 +153,10 @@ static size_t build(const struct kind *kind, size_t size)
 
 /* One side's writers. */
 struct writers {
-    uint32_t (*opening)(uint8_t, uint8_t, uint8_t, uint64_t, uint8_t *, size_t);
-    uint32_t (*request)(uint8_t, uint8_t, uint64_t, uint8_t *, size_t);
-    uint32_t (*message)(uint8_t, uint8_t, uint8_t, uint8_t, uint8_t, uint8_t, uint64_t, uint8_t, uint64_t, uint32_t, uint8_t *, size_t);
+    uint32_t (*opening)(uint8_t, uint8_t, bool, uint8_t, uint64_t, uint8_t *, size_t);
+    uint32_t (*request)(uint8_t, bool, uint8_t, uint64_t, uint8_t *, size_t);
+    uint32_t (*message)(uint8_t, uint8_t, uint8_t, uint8_t, uint8_t, bool, uint8_t, uint64_t, bool, uint8_t, uint64_t, uint32_t, uint8_t *,
+                        size_t);
     uint32_t (*access)(uint8_t, uint8_t, uint8_t *, size_t);
     uint32_t (*expiry)(uint8_t *, size_t);
     uint32_t (*time)(uint32_t, uint8_t *, size_t);
@@ -187,20 +189,23 @@ static size_t after(size_t at, size_t size, uint32_t given)
 }
 
 #define HERE out + at, LONGEST_FILE - at
-#define LONGEST_FIELDS 5, 0, 2, 3, 0x76, 7, 5550100, 15, 999999999999999, 60
+#define NO_NUMBER false, 0, 0
+#define HOME false, 7, 5550100
+#define ROOM_23 false, 7, 5550123
+#define LONGEST_FIELDS 5, 0, 2, 3, 0x76, HOME, true, 15, 999999999999999, 60
 
 static size_t write_call(const struct writers *side)
 {
     size_t at = 0, from;
 
-    at = after(at, 15, side->opening(0, 8, 7, 5550100, HERE));
-    at = after(at, 14, side->request(1, 7, 5550123, HERE));
-    at = after(at, 9, side->message(2, 0, 2, 1, 0, 0, 0, 0, 0, 0, HERE));
+    at = after(at, 15, side->opening(0, 8, HOME, HERE));
+    at = after(at, 14, side->request(1, ROOM_23, HERE));
+    at = after(at, 9, side->message(2, 0, 2, 1, 0, NO_NUMBER, NO_NUMBER, 0, HERE));
     do {
         from = at;
         at = after(at, 8, side->time(3600, HERE));
-        at = after(at, 18, side->message(5, 0, 1, 3, 32, 0, 0, 7, 5550123, 0, HERE));
-        at = after(at, 14, side->request(2, 0, 0, HERE));
+        at = after(at, 18, side->message(5, 0, 1, 3, 32, NO_NUMBER, ROOM_23, 0, HERE));
+        at = after(at, 14, side->request(2, NO_NUMBER, HERE));
         at = after(at, 31, side->message(LONGEST_FIELDS, HERE));
         at = after(at, 6, side->access(2, 12, HERE));
         at = after(at, 4, side->expiry(HERE));

@@ -16,7 +16,7 @@ enum {
     LONGEST_FILE = 65536,
     DAY = 86400,       /* the longest time event */
     YEAR = 31536000,   /* the largest sum of the meters, and the largest Duration */
-    RECORD_TEXT = 192, /* no record's text is longer: the line takes up to 62 bytes, O27's actions 83, 18 and 7 */
+    RECORD_TEXT = 192, /* no record's text is longer: the line takes up to 62 bytes, O27's actions 84, 18 and 7 */
     END_TEXT = sizeof "END 16384\n" - 1,
     SHORTEST_RECORD = 4
 };
@@ -55,10 +55,11 @@ enum payer { NOBODY, CALLER, CALLED, FAR };
 
 enum flag { FLAG_TRANSFER = 1, FLAG_OPTION = 2, FLAG_SUBSCRIBED = 4, FLAG_INTERACTION = 8, FLAG_CASE_D = 16 };
 
-/* A user's number: `count` digits, leading zeros among them. */
+/* A user's number: `count` digits, leading zeros among them, and its nature, which is national where it is not international. */
 struct digits {
     uint64_t value;
     uint8_t count;
+    bool international;
 };
 
 /* Of the numbers that a call learns only its own is ever listed, so no other is held. */
@@ -120,12 +121,15 @@ static uint32_t four_bytes(const uint8_t *at)
     return at[0] | (uint32_t)at[1] << 8 | (uint32_t)at[2] << 16 | (uint32_t)at[3] << 24;
 }
 
+/* The top bit of the first byte is the nature, the rest of it the count. */
 static struct digits read_digits(const uint8_t *at)
 {
-    return (struct digits){.value = four_bytes(at + 1) | (uint64_t)four_bytes(at + 5) << 32, .count = at[0]};
+    return (struct digits){.value = four_bytes(at + 1) | (uint64_t)four_bytes(at + 5) << 32,
+                           .count = at[0] & 0x7F,
+                           .international = at[0] >> 7};
 }
 
-/* Count 1 to 15, and a value below 10 to the count. */
+/* Count 1 to 15, and a value below 10 to the count, of either nature. */
 static int digits_in_range(struct digits digits)
 {
     static const uint64_t ten_to[16] = {
@@ -147,6 +151,12 @@ static int digits_in_range(struct digits digits)
         1000000000000000u,
     };
     return digits.count >= 1 && digits.count <= 15 && digits.value < ten_to[digits.count];
+}
+
+/* Where there is no number, it is national. */
+static int digits_absent(struct digits digits)
+{
+    return digits.count == 0 && digits.value == 0 && !digits.international;
 }
 
 /* The bytes that follow the parts: bit 128 adds none. */
@@ -270,7 +280,7 @@ static int read_event(const uint8_t *body, struct event *event)
         digits = read_digits(body + 1);
         if (event->item <= REQUEST_A)
             return digits_in_range(digits);
-        return event->item <= REQUEST_C && digits.count == 0 && digits.value == 0;
+        return event->item <= REQUEST_C && digits_absent(digits);
     case KIND_MESSAGE:
         return read_message(body, event);
     case KIND_ACCESS:
@@ -1005,6 +1015,13 @@ static uint8_t *put_number(uint8_t *to, uint32_t value)
     return put_digits(to, value, count);
 }
 
+static uint8_t *put_user(uint8_t *to, struct digits digits)
+{
+    if (digits.international)
+        *to++ = '+';
+    return put_digits(to, digits.value, digits.count);
+}
+
 static uint8_t *put_phase(uint8_t *to, enum phase phase)
 {
     switch (phase) {
@@ -1095,9 +1112,9 @@ static uint8_t *put_message(uint8_t *to, const struct action *action, const stru
     if (action->parts & PART_PARTIAL)
         to = PUT(to, " PARTIAL");
     if (action->parts & PART_CALLING)
-        to = put_digits(PUT(to, " CALLING "), call->own.value, call->own.count);
+        to = put_user(PUT(to, " CALLING "), call->own);
     if (action->parts & PART_CALLED)
-        to = put_digits(PUT(to, " CALLED "), call->own.value, call->own.count);
+        to = put_user(PUT(to, " CALLED "), call->own);
     if (action->parts & PART_DURATION)
         to = put_number(PUT(to, " DURATION "), action->duration);
     return PUT(to, "\n");
@@ -1247,7 +1264,7 @@ static uint8_t *store_four(uint8_t *to, uint32_t value)
 
 static uint8_t *store_digits(uint8_t *to, struct digits digits)
 {
-    to = store(to, digits.count);
+    to = store(to, digits.count | (unsigned)digits.international << 7);
     memcpy(to, &digits.value, sizeof digits.value);
     return to + sizeof digits.value;
 }
@@ -1261,12 +1278,13 @@ static uint8_t *store_head(uint8_t *to, unsigned length, enum kind kind)
 /* In range where they are wanted, else none. */
 static int digits_as_wanted(int wanted, struct digits digits)
 {
-    return wanted ? digits_in_range(digits) : digits.count == 0 && digits.value == 0;
+    return wanted ? digits_in_range(digits) : digits_absent(digits);
 }
 
-uint32_t plain_write_opening(uint8_t role, uint8_t flags, uint8_t own_count, uint64_t own_value, uint8_t *out, size_t out_len)
+uint32_t plain_write_opening(uint8_t role, uint8_t flags, bool own_international, uint8_t own_count, uint64_t own_value, uint8_t *out,
+                             size_t out_len)
 {
-    struct digits own = {.value = own_value, .count = own_count};
+    struct digits own = {.value = own_value, .count = own_count, .international = own_international};
 
     if (role > DESTINATION || flags > 31 || !digits_in_range(own))
         return OUT_OF_RANGE;
@@ -1276,9 +1294,10 @@ uint32_t plain_write_opening(uint8_t role, uint8_t flags, uint8_t own_count, uin
     return APPLIED;
 }
 
-uint32_t plain_write_request(uint8_t request, uint8_t called_count, uint64_t called_value, uint8_t *out, size_t out_len)
+uint32_t plain_write_request(uint8_t request, bool called_international, uint8_t called_count, uint64_t called_value, uint8_t *out,
+                             size_t out_len)
 {
-    struct digits called = {.value = called_value, .count = called_count};
+    struct digits called = {.value = called_value, .count = called_count, .international = called_international};
 
     if (request > REQUEST_C || !digits_as_wanted(request <= REQUEST_A, called))
         return OUT_OF_RANGE;
@@ -1288,12 +1307,12 @@ uint32_t plain_write_request(uint8_t request, uint8_t called_count, uint64_t cal
     return APPLIED;
 }
 
-uint32_t plain_write_message(uint8_t message, uint8_t cause, uint8_t component, uint8_t item, uint8_t parts, uint8_t calling_count,
-                             uint64_t calling_value, uint8_t called_count, uint64_t called_value, uint32_t duration, uint8_t *out,
-                             size_t out_len)
+uint32_t plain_write_message(uint8_t message, uint8_t cause, uint8_t component, uint8_t item, uint8_t parts, bool calling_international,
+                             uint8_t calling_count, uint64_t calling_value, bool called_international, uint8_t called_count,
+                             uint64_t called_value, uint32_t duration, uint8_t *out, size_t out_len)
 {
-    struct digits calling = {.value = calling_value, .count = calling_count};
-    struct digits called = {.value = called_value, .count = called_count};
+    struct digits calling = {.value = calling_value, .count = calling_count, .international = calling_international};
+    struct digits called = {.value = called_value, .count = called_count, .international = called_international};
     unsigned length = 7 + parts_length(parts);
     uint8_t *to;
 

@@ -40,7 +40,7 @@ cp "$room/has" "$room/actions"
 grep -v '"> ' $specs/Messages.antt >"$room/specs"
 written 'ascii' "$room/specs" >"$room/written"
 # shellcheck disable=SC2016 # backticks of the page
-awk '/^What a message carries/ { inside = 1 } /^$/ { inside = 0 } inside' $format | grep -oE '`[A-Z-]+[^`]*`' | tr -d '`' |
+awk '/^What a message carries/ { inside = 1 } /^$/ { inside = 0 } inside' $format | grep -oE '`[A-Z+-]+[^`]*`' | tr -d '`' |
     sed 's/ [a-z]*$//' | sort -u >"$room/has"
 differ "word of a message"
 # the numbers given back: those of a call, of the frames, of a text that does not fit

@@ -1,10 +1,14 @@
 /*
- * The listing and the dump of an event file, and writers of its records, for a host written in C or C++ on x86-64. Link with librev.a,
- * which host/c/build makes and which needs nothing else. docs/FORMAT.md has the file, the listing and the dump.
+ * The listing and the dump of an event file, writers of its records, and whether two telephone numbers are the same, for a host written in
+ * C or C++ on x86-64. Link with librev.a, which host/c/build makes and which needs nothing else. docs/FORMAT.md has the file, the listing
+ * and the dump.
  */
 #ifndef REV_H
 #define REV_H
 
+#ifndef __cplusplus
+#include <stdbool.h>
+#endif
 #include <stddef.h>
 #include <stdint.h>
 
@@ -68,9 +72,15 @@ size_t rev_dump(const uint8_t *file, size_t file_len, uint8_t *out, size_t out_l
 
 /*
  * Each of these writes the record of one event at the start of the out_len bytes at `out`: kinds 1 to 6 of docs/FORMAT.md in their order,
- * with the fields in the order of the record. A telephone number is a count of digits and a value; where none is wanted (request 2 and 3;
- * a part that is not named) both are 0, and so is a Duration that the parts do not name. `item` is the operation or the error number of
- * the component, else 0; `told` is what the own access tells, 1 to 5.
+ * with the fields in the order of the record. `item` is the operation or the error number of the component, else 0; `told` is what the own
+ * access tells, 1 to 5. A telephone number is three parameters:
+ *
+ *   international    whether it is; where it is not, it is national
+ *   count            how many digits it has, 1 to 15: no count byte of a record, so that 128 and more are out of range as 16 is
+ *   value            below ten to the count
+ *
+ * Where none is wanted (request 2 and 3; a part that is not named) they are false, 0 and 0. A number of no digits is never international.
+ * A Duration that the parts do not name is 0.
  *
  *   REV_WRITTEN      the record stands at `out`, and bytes past it are as they were; rev_record_length tells how long it is
  *   REV_BAD_FIELD    a field is out of its range, or a number or Duration is there that the event does not name
@@ -79,22 +89,34 @@ size_t rev_dump(const uint8_t *file, size_t file_len, uint8_t *out, size_t out_l
  * The number is the low byte of what they give (REV_NUMBER); the rest is 0. On both refusals every byte of `out` is as it was. What they
  * write, the listing and the dump read back as the same event.
  *
- * This holds for any fields and any length, 0 among them. But C passes a number that is too large for its parameter's type without its high
- * bits, and none of them sees it: 256 as a count arrives as 0, 4294967356 seconds as 60. Look before you pass it (-Wconversion warns).
+ * This holds for any fields and any length, 0 among them. Of a bool nothing has to be looked at: C makes true of every value but 0. But C
+ * passes a number that is too large for its parameter's type without its high bits, and none of them sees it: 256 as a count arrives as 0,
+ * 4294967356 seconds as 60. Look before you pass it (-Wconversion warns).
  *
  * What they ask: `out` is not null, even at length 0, and out_len bytes are there to be written; none outside is touched. They too keep
  * nothing between calls, allocate nothing and call nothing.
  *
  * The promise is proved of crates/files/src/write.rt. That these declarations fit it is tested (test.c) and not proved.
  */
-uint32_t rev_write_opening(uint8_t role, uint8_t flags, uint8_t own_count, uint64_t own_value, uint8_t *out, size_t out_len) REV_NOT_NULL;
-uint32_t rev_write_request(uint8_t request, uint8_t called_count, uint64_t called_value, uint8_t *out, size_t out_len) REV_NOT_NULL;
-uint32_t rev_write_message(uint8_t message, uint8_t cause, uint8_t component, uint8_t item, uint8_t parts, uint8_t calling_count,
-                           uint64_t calling_value, uint8_t called_count, uint64_t called_value, uint32_t duration, uint8_t *out,
+uint32_t rev_write_opening(uint8_t role, uint8_t flags, bool own_international, uint8_t own_count, uint64_t own_value, uint8_t *out,
                            size_t out_len) REV_NOT_NULL;
+uint32_t rev_write_request(uint8_t request, bool called_international, uint8_t called_count, uint64_t called_value, uint8_t *out,
+                           size_t out_len) REV_NOT_NULL;
+uint32_t rev_write_message(uint8_t message, uint8_t cause, uint8_t component, uint8_t item, uint8_t parts, bool calling_international,
+                           uint8_t calling_count, uint64_t calling_value, bool called_international, uint8_t called_count,
+                           uint64_t called_value, uint32_t duration, uint8_t *out, size_t out_len) REV_NOT_NULL;
 uint32_t rev_write_access(uint8_t told, uint8_t error, uint8_t *out, size_t out_len) REV_NOT_NULL;
 uint32_t rev_write_expiry(uint8_t *out, size_t out_len) REV_NOT_NULL;
 uint32_t rev_write_time(uint32_t seconds, uint8_t *out, size_t out_len) REV_NOT_NULL;
+
+/*
+ * Whether two telephone numbers are the same: exactly where both are international or neither is, and their counts are equal, and their
+ * values. So 5550123 at home is not +5550123 abroad, nor 05550123. It asks for nothing: numbers out of range are compared alike.
+ *
+ * The promise is proved of crates/files/src/write.rt. That this declaration fits it is tested (test.c) and not proved.
+ */
+bool rev_same_number(bool international, uint8_t count, uint64_t value, bool other_international, uint8_t other_count,
+                     uint64_t other_value);
 
 /* The bytes of a record that was written: its first two count those that follow them. */
 static inline size_t rev_record_length(const uint8_t *record)

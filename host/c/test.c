@@ -5,7 +5,10 @@
  * begins.
  *
  * And of the writers, for events of each kind, in range and not: rooms of every size from 0 to past the record, with the same guards. A bad
- * field gives 3 in every room and changes nothing; else a room too small gives 8 and changes nothing, and another has the record.
+ * field gives 3 in every room and changes nothing; else a room too small gives 8 and changes nothing, and another has the record. Of a
+ * number that was written, dump and listing show the nature.
+ *
+ * And of numbers, all pairs of some: they are the same where nature, count and value are, and nowhere else.
  */
 #define _DEFAULT_SOURCE /* MAP_ANONYMOUS */
 
@@ -86,6 +89,7 @@ static int kept(const char *name, const uint8_t *file, size_t file_len)
 enum kind { OPENING = 1, REQUEST, MESSAGE, ACCESS, EXPIRY, TIME };
 
 struct number {
+    bool international;
     uint8_t count;
     uint64_t value;
 };
@@ -100,41 +104,69 @@ struct event {
     uint8_t record[REV_RECORD];
 };
 
-#define HOME {7, 5550100}
-#define ROOM_23 {7, 5550123}
-#define MOST {15, 999999999999999}
-#define CALLING_BYTES 7, 0x14, 0xB0, 0x54, 0, 0, 0, 0, 0
-#define CALLED_BYTES 15, 0xFF, 0x7F, 0xC6, 0xA4, 0x7E, 0x8D, 3, 0
+#define HOME {false, 7, 5550100}
+#define ABROAD {true, 7, 5550100}
+#define ROOM_23 {false, 7, 5550123}
+#define MOST {false, 15, 999999999999999}
+#define MOST_ABROAD {true, 15, 999999999999999}
+#define NO_DIGITS_ABROAD {true, 0, 0}
+#define HOME_BYTES 7, 0x14, 0xB0, 0x54, 0, 0, 0, 0, 0
+#define ABROAD_BYTES 0x87, 0x14, 0xB0, 0x54, 0, 0, 0, 0, 0
+#define MOST_BYTES 15, 0xFF, 0x7F, 0xC6, 0xA4, 0x7E, 0x8D, 3, 0
+#define MOST_ABROAD_BYTES 0x8F, 0xFF, 0x7F, 0xC6, 0xA4, 0x7E, 0x8D, 3, 0
 
 static const struct event events[] = {
-    {OPENING, .item = 0, .flags = 8, .own = HOME, .record = {13, 0, 1, 0, 0, 8, CALLING_BYTES}},
-    {OPENING, .item = 1, .flags = 31, .own = MOST, .record = {13, 0, 1, 0, 1, 31, CALLED_BYTES}},
+    {OPENING, .item = 0, .flags = 8, .own = HOME, .record = {13, 0, 1, 0, 0, 8, HOME_BYTES}},
+    {OPENING, .item = 0, .flags = 8, .own = ABROAD, .record = {13, 0, 1, 0, 0, 8, ABROAD_BYTES}},
+    {OPENING, .item = 1, .flags = 31, .own = MOST, .record = {13, 0, 1, 0, 1, 31, MOST_BYTES}},
+    {OPENING, .item = 1, .flags = 31, .own = MOST_ABROAD, .record = {13, 0, 1, 0, 1, 31, MOST_ABROAD_BYTES}},
     {OPENING, .item = 2, .flags = 8, .own = HOME},
     {OPENING, .item = 0, .flags = 32, .own = HOME},
     {OPENING, .item = 0, .flags = 8},
-    {OPENING, .item = 0, .flags = 8, .own = {16, 0}},
-    {OPENING, .item = 0, .flags = 8, .own = {1, 10}},
-    {OPENING, .item = 0, .flags = 8, .own = {15, 1000000000000000}},
-    {OPENING, .item = 255, .flags = 255, .own = {255, UINT64_MAX}},
+    {OPENING, .item = 0, .flags = 8, .own = NO_DIGITS_ABROAD},
+    {OPENING, .item = 0, .flags = 8, .own = {false, 16, 0}},
+    {OPENING, .item = 0, .flags = 8, .own = {true, 16, 0}},
+    {OPENING, .item = 0, .flags = 8, .own = {false, 1, 10}},
+    {OPENING, .item = 0, .flags = 8, .own = {true, 1, 10}},
+    {OPENING, .item = 0, .flags = 8, .own = {false, 15, 1000000000000000}},
+    {OPENING, .item = 0, .flags = 8, .own = {true, 15, 1000000000000000}},
+    {OPENING, .item = 0, .flags = 8, .own = {false, 0x80, 0}}, /* count bytes are no counts */
+    {OPENING, .item = 0, .flags = 8, .own = {true, 0x80, 0}},
+    {OPENING, .item = 0, .flags = 8, .own = {false, 0x87, 5550100}},
+    {OPENING, .item = 0, .flags = 8, .own = {true, 0x87, 5550100}},
+    {OPENING, .item = 255, .flags = 255, .own = {false, 255, UINT64_MAX}},
+    {OPENING, .item = 255, .flags = 255, .own = {true, 255, UINT64_MAX}},
 
-    {REQUEST, .item = 0, .called = {1, 0}, .record = {12, 0, 2, 0, 0, 1}},
+    {REQUEST, .item = 0, .called = {false, 1, 0}, .record = {12, 0, 2, 0, 0, 1}},
+    {REQUEST, .item = 0, .called = {true, 1, 0}, .record = {12, 0, 2, 0, 0, 0x81}},
     {REQUEST, .item = 1, .called = ROOM_23, .record = {12, 0, 2, 0, 1, 7, 0x2B, 0xB0, 0x54}},
     {REQUEST, .item = 2, .record = {12, 0, 2, 0, 2}},
     {REQUEST, .item = 3, .record = {12, 0, 2, 0, 3}},
     {REQUEST, .item = 4},
     {REQUEST, .item = 1},
+    {REQUEST, .item = 1, .called = NO_DIGITS_ABROAD},
+    {REQUEST, .item = 1, .called = {false, 0x87, 5550123}},
     {REQUEST, .item = 2, .called = ROOM_23},
-    {REQUEST, .item = 3, .called = {0, 1}},
-    {REQUEST, .item = 3, .called = {1, 0}},
+    {REQUEST, .item = 2, .called = NO_DIGITS_ABROAD},
+    {REQUEST, .item = 2, .called = {false, 0x80, 0}},
+    {REQUEST, .item = 3, .called = NO_DIGITS_ABROAD},
+    {REQUEST, .item = 3, .called = {false, 0, 1}},
+    {REQUEST, .item = 3, .called = {false, 1, 0}},
 
     {MESSAGE, .item = 2, .component = 2, .detail = 1, .record = {7, 0, 3, 0, 2, 0, 2, 1, 0}},
     {MESSAGE, .item = 4, .cause = 127, .component = 3, .detail = 255, .record = {7, 0, 3, 0, 4, 127, 3, 255, 0}},
     {MESSAGE, .item = 5, .component = 4, .parts = 15, .record = {7, 0, 3, 0, 5, 0, 4, 0, 15}},
-    {MESSAGE, .item = 1, .parts = 16, .calling = HOME, .record = {16, 0, 3, 0, 1, 0, 0, 0, 16, CALLING_BYTES}},
-    {MESSAGE, .item = 1, .parts = 32, .called = MOST, .record = {16, 0, 3, 0, 1, 0, 0, 0, 32, CALLED_BYTES}},
+    {MESSAGE, .item = 1, .parts = 16, .calling = HOME, .record = {16, 0, 3, 0, 1, 0, 0, 0, 16, HOME_BYTES}},
+    {MESSAGE, .item = 1, .parts = 16, .calling = ABROAD, .record = {16, 0, 3, 0, 1, 0, 0, 0, 16, ABROAD_BYTES}},
+    {MESSAGE, .item = 1, .parts = 32, .called = MOST, .record = {16, 0, 3, 0, 1, 0, 0, 0, 32, MOST_BYTES}},
+    {MESSAGE, .item = 1, .parts = 32, .called = MOST_ABROAD, .record = {16, 0, 3, 0, 1, 0, 0, 0, 32, MOST_ABROAD_BYTES}},
+    {MESSAGE, .item = 1, .parts = 48, .calling = ABROAD, .called = HOME,
+     .record = {25, 0, 3, 0, 1, 0, 0, 0, 48, ABROAD_BYTES, HOME_BYTES}},
     {MESSAGE, .item = 3, .parts = 64, .seconds = UINT32_MAX, .record = {11, 0, 3, 0, 3, 0, 0, 0, 64, 255, 255, 255, 255}},
     {MESSAGE, .item = 5, .component = 2, .detail = 3, .parts = 127, .calling = HOME, .called = MOST, .seconds = 40,
-     .record = {29, 0, 3, 0, 5, 0, 2, 3, 127, CALLING_BYTES, CALLED_BYTES, 40}},
+     .record = {29, 0, 3, 0, 5, 0, 2, 3, 127, HOME_BYTES, MOST_BYTES, 40}},
+    {MESSAGE, .item = 5, .component = 2, .detail = 3, .parts = 127, .calling = ABROAD, .called = MOST_ABROAD, .seconds = 40,
+     .record = {29, 0, 3, 0, 5, 0, 2, 3, 127, ABROAD_BYTES, MOST_ABROAD_BYTES, 40}},
     {MESSAGE, .item = 0},
     {MESSAGE, .item = 6},
     {MESSAGE, .item = 5, .cause = 128},
@@ -147,9 +179,15 @@ static const struct event events[] = {
     {MESSAGE, .item = 5, .parts = 4},
     {MESSAGE, .item = 5, .parts = 128},
     {MESSAGE, .item = 5, .parts = 16},
-    {MESSAGE, .item = 5, .parts = 32, .called = {15, 1000000000000000}},
+    {MESSAGE, .item = 5, .parts = 16, .calling = NO_DIGITS_ABROAD},
+    {MESSAGE, .item = 5, .parts = 16, .calling = {false, 0x80, 0}},
+    {MESSAGE, .item = 5, .parts = 32, .called = NO_DIGITS_ABROAD},
+    {MESSAGE, .item = 5, .parts = 32, .called = {true, 0x8F, 0}},
+    {MESSAGE, .item = 5, .calling = NO_DIGITS_ABROAD},
+    {MESSAGE, .item = 5, .called = NO_DIGITS_ABROAD},
+    {MESSAGE, .item = 5, .parts = 32, .called = {false, 15, 1000000000000000}},
     {MESSAGE, .item = 5, .parts = 32, .calling = HOME, .called = HOME},
-    {MESSAGE, .item = 5, .parts = 16, .calling = HOME, .called = {0, 1}},
+    {MESSAGE, .item = 5, .parts = 16, .calling = HOME, .called = {false, 0, 1}},
     {MESSAGE, .item = 5, .parts = 48, .calling = HOME, .called = HOME, .seconds = 1},
 
     {ACCESS, .item = 1, .record = {4, 0, 4, 0, 1, 0}},
@@ -169,16 +207,19 @@ static const struct event events[] = {
 
 enum { EVENTS = sizeof events / sizeof events[0] };
 
+/* A number, as three of a writer's parameters. */
+#define NUMBER(number) (number).international, (number).count, (number).value
+
 static uint32_t write_event(const struct event *e, uint8_t *out, size_t room)
 {
     switch (e->kind) {
     case OPENING:
-        return rev_write_opening(e->item, e->flags, e->own.count, e->own.value, out, room);
+        return rev_write_opening(e->item, e->flags, NUMBER(e->own), out, room);
     case REQUEST:
-        return rev_write_request(e->item, e->called.count, e->called.value, out, room);
+        return rev_write_request(e->item, NUMBER(e->called), out, room);
     case MESSAGE:
-        return rev_write_message(e->item, e->cause, e->component, e->detail, e->parts, e->calling.count, e->calling.value,
-                                 e->called.count, e->called.value, e->seconds, out, room);
+        return rev_write_message(e->item, e->cause, e->component, e->detail, e->parts, NUMBER(e->calling), NUMBER(e->called), e->seconds,
+                                 out, room);
     case ACCESS:
         return rev_write_access(e->item, e->detail, out, room);
     case EXPIRY:
@@ -214,6 +255,103 @@ static int writers_keep(void)
                 printf("event %zu, of kind %d: what is written into %zu bytes is not as promised\n", i, (int)events[i].kind, room);
                 return 0;
             }
+    return 1;
+}
+
+/* ---- Numbers, read back ---- */
+
+static int is_text(view *text_of, const uint8_t *file, size_t file_len, const char *wanted)
+{
+    size_t length = text_of(file, file_len, whole, ROOM);
+
+    return length == strlen(wanted) && memcmp(whole, wanted, length) == 0;
+}
+
+/*
+ * A case A in transfer mode, to a room at home or abroad, by a caller who is either, and a message with both numbers: what was written is
+ * dumped with the nature of each, and the IAM has that of the caller. Any value but 0 says international.
+ */
+static int numbers_read_back(void)
+{
+    static const unsigned natures[] = {0, 1, 2, 0x80, 0x100, 0x80000000};
+    enum { NATURES = sizeof natures / sizeof natures[0] };
+
+    for (size_t i = 0; i < NATURES * NATURES; i++) {
+        unsigned own = natures[i / NATURES], called = natures[i % NATURES];
+        const char *own_sign = own ? "+" : "", *called_sign = called ? "+" : "";
+        uint8_t file[3 * REV_RECORD];
+        size_t length = 0;
+        char dump[256], listing[256];
+
+        if (rev_write_opening(0, 9, own, 7, 5550100, file, REV_RECORD) != REV_WRITTEN)
+            return 0;
+        length += rev_record_length(file);
+        if (rev_write_request(1, called, 3, 23, file + length, REV_RECORD) != REV_WRITTEN)
+            return 0;
+        length += rev_record_length(file + length);
+        if (rev_write_message(1, 0, 0, 0, 48, own, 1, 0, called, 15, 1, 0, file + length, REV_RECORD) != REV_WRITTEN)
+            return 0;
+        length += rev_record_length(file + length);
+        snprintf(dump, sizeof dump,
+                 "RECORDS 3\n1 0 OPENING originating transfer,interaction %s5550100\n2 15 REQUEST A %s023\n"
+                 "3 29 IAM 0 CALLING %s0 CALLED %s000000000000001\n",
+                 own_sign, called_sign, own_sign, called_sign);
+        snprintf(listing, sizeof listing,
+                 "REV 1\n1 0 NULL IDLE 0 0 0\n2 0 SETUP WAIT-SETUP 0 0 0\n> IAM INVOKE SETUP TRANSFER CALLING %s5550100\n"
+                 "3 1 SETUP WAIT-SETUP 0 0 0\nEND 3\n",
+                 own_sign);
+        if (!is_text(rev_dump, file, length, dump) || !is_text(rev_listing, file, length, listing)) {
+            printf("an own number of nature %u and a called one of nature %u are not read back\n", own, called);
+            return 0;
+        }
+    }
+    return 1;
+}
+
+/* ---- The same number ---- */
+
+static size_t pairs;
+
+static int compares(struct number a, struct number b, bool same)
+{
+    pairs++;
+    if (rev_same_number(NUMBER(a), NUMBER(b)) == same)
+        return 1;
+    printf("the numbers %d, %u, %llu and %d, %u, %llu are %s, and that is not told\n", a.international, a.count, (unsigned long long)a.value,
+           b.international, b.count, (unsigned long long)b.value, same ? "the same" : "not the same");
+    return 0;
+}
+
+/* Every pair of numbers of these natures, counts and values; and each with those that differ from it in one bit. */
+static int same_numbers_are_told(void)
+{
+    static const uint8_t counts[] = {0, 1, 7, 8, 15, 16, 127, 128, 135, 255};
+    static const uint64_t values[] = {0, 1, 5550100, 5550123, 999999999999999, 1000000000000000, UINT32_MAX, 0x10054B02B, INT64_MAX,
+                                      UINT64_MAX};
+    enum { COUNTS = sizeof counts / sizeof counts[0], VALUES = sizeof values / sizeof values[0], NUMBERS = 2 * COUNTS * VALUES };
+
+    for (size_t i = 0; i < NUMBERS; i++) {
+        struct number a = {i % 2 != 0, counts[i / 2 % COUNTS], values[i / 2 / COUNTS]};
+
+        for (size_t j = 0; j < NUMBERS; j++) {
+            struct number b = {j % 2 != 0, counts[j / 2 % COUNTS], values[j / 2 / COUNTS]};
+
+            if (!compares(a, b, i == j))
+                return 0;
+        }
+        for (unsigned bit = 0; bit < 64; bit++) {
+            struct number other = {a.international, a.count, a.value ^ UINT64_C(1) << bit};
+
+            if (!compares(a, other, false) || !compares(other, a, false))
+                return 0;
+        }
+        for (unsigned bit = 0; bit < 8; bit++) {
+            struct number other = {a.international, a.count ^ (uint8_t)(1u << bit), a.value};
+
+            if (!compares(a, other, false) || !compares(other, a, false))
+                return 0;
+        }
+    }
     return 1;
 }
 
@@ -266,7 +404,7 @@ int main(int argc, char **argv)
     if (!kept("a file of no bytes", lend(pages, bytes, 0), 0) ||
         !kept("a file too long by a byte", lend(pages, bytes, sizeof bytes), sizeof bytes))
         return 1;
-    if (!writers_keep())
+    if (!writers_keep() || !numbers_read_back() || !same_numbers_are_told())
         return 1;
     snprintf(version, sizeof version, "REV %d\n", REV_VERSION);
     rev_listing(bytes, 0, whole, ROOM);
@@ -274,6 +412,6 @@ int main(int argc, char **argv)
         printf("the first line of a listing is not %s", version);
         return 1;
     }
-    printf("%d files and %d events, %zu buffers, each as promised\n", argc - 1, EVENTS, buffers);
+    printf("%d files and %d events, %zu buffers, %zu pairs of numbers, each as promised\n", argc - 1, EVENTS, buffers, pairs);
     return 0;
 }

@@ -8,11 +8,13 @@ int main()
     std::vector<uint8_t> file(1), out(REV_LONGEST); // data() of an empty vector may be null
     bool fits = rev_listing(file.data(), 0, out.data(), out.size()) == 12 && rev_dump(file.data(), 0, out.data(), out.size()) == 10;
     bool refused = rev_listing(file.data(), 0, out.data(), 0) == REV_TOO_LONG && rev_dump(file.data(), 0, out.data(), 0) == REV_TOO_LONG;
-    bool written = rev_write_opening(0, 8, 7, 5550100, out.data(), out.size()) == REV_WRITTEN && rev_record_length(out.data()) == 15 &&
-                   rev_write_request(2, 0, 0, out.data(), out.size()) == REV_WRITTEN && rev_record_length(out.data()) == 14 &&
-                   rev_write_message(5, 0, 0, 0, 112, 1, 0, 1, 0, 0, out.data(), REV_RECORD) == REV_WRITTEN &&
+    bool written = rev_write_opening(0, 8, true, 7, 5550100, out.data(), out.size()) == REV_WRITTEN && out[6] == 0x87 &&
+                   rev_record_length(out.data()) == 15 &&
+                   rev_write_request(2, false, 0, 0, out.data(), out.size()) == REV_WRITTEN && rev_record_length(out.data()) == 14 &&
+                   rev_write_message(5, 0, 0, 0, 112, false, 1, 0, true, 1, 0, 0, out.data(), REV_RECORD) == REV_WRITTEN &&
                    rev_record_length(out.data()) == REV_RECORD && rev_write_access(4, 0, out.data(), 5) == REV_TOO_LONG &&
                    rev_write_expiry(out.data(), 4) == REV_WRITTEN && rev_write_time(86401, out.data(), 0) == REV_BAD_FIELD &&
                    rev_record_length(out.data()) == 4;
-    return fits && refused && written ? 0 : 1;
+    bool same = rev_same_number(true, 7, 5550123, true, 7, 5550123) && !rev_same_number(true, 7, 5550123, false, 7, 5550123);
+    return fits && refused && written && same ? 0 : 1;
 }

@@ -14,6 +14,11 @@
 /* The numbers of docs/FORMAT.md that this call takes. */
 enum { ORIGINATING = 0, INTERACTION_ALLOWED = 8, CASE_A = 1, CASE_B = 2, ANM = 2, RESULT = 2, SETUP = 1, CLEAR = 4 };
 
+/* A telephone number, as three of a writer's parameters: whether it is international, how many digits it has, and its value. */
+#define OWN_NUMBER false, 7, 5550100
+#define CALLED_NUMBER false, 7, 5550123 /* abroad it would be true, 7, 5550123, which the dump shows as +5550123 */
+#define NO_NUMBER false, 0, 0
+
 /* The event file so far. */
 struct journal {
     uint8_t bytes[REV_LONGEST];
@@ -43,12 +48,12 @@ static int write_call(struct journal *journal)
 {
     uint8_t record[REV_RECORD];
 
-    return add(journal, rev_write_opening(ORIGINATING, INTERACTION_ALLOWED, 7, 5550100, record, sizeof record), record) &&
-           add(journal, rev_write_request(CASE_A, 7, 5550123, record, sizeof record), record) &&
+    return add(journal, rev_write_opening(ORIGINATING, INTERACTION_ALLOWED, OWN_NUMBER, record, sizeof record), record) &&
+           add(journal, rev_write_request(CASE_A, CALLED_NUMBER, record, sizeof record), record) &&
            add(journal, rev_write_time(8, record, sizeof record), record) &&
-           add(journal, rev_write_message(ANM, 0, RESULT, SETUP, 0, 0, 0, 0, 0, 0, record, sizeof record), record) &&
+           add(journal, rev_write_message(ANM, 0, RESULT, SETUP, 0, NO_NUMBER, NO_NUMBER, 0, record, sizeof record), record) &&
            add(journal, rev_write_time(60, record, sizeof record), record) &&
-           add(journal, rev_write_request(CASE_B, 0, 0, record, sizeof record), record) &&
+           add(journal, rev_write_request(CASE_B, NO_NUMBER, record, sizeof record), record) &&
            add(journal, rev_write_access(CLEAR, 0, record, sizeof record), record);
 }
 

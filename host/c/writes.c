@@ -1,10 +1,11 @@
 /*
  * Writes many events in one process, for a comparison with another writer.
  *
- * Each event comes on standard input as its kind, a byte; its fields, in the order of the writer's parameters; and a 4-byte length and
- * the bytes that the lent buffer has before the call. To standard output go the 4 bytes that the writer gave; the buffer's bytes after the
- * call; and a 4-byte length and the dump of the record, empty where none was written. They are flushed before more is read. All numbers
- * are little-endian. The program ends with status 0 when its input does; with 3 if a byte outside the buffer was changed; else with 2.
+ * Each event comes on standard input as its kind, a byte; its fields, in the order of the writer's parameters, a bool as a byte; and a
+ * 4-byte length and the bytes that the lent buffer has before the call. To standard output go the 4 bytes that the writer gave; the
+ * buffer's bytes after the call; and a 4-byte length and the dump of the record, empty where none was written. They are flushed before
+ * more is read. All numbers are little-endian. The program ends with status 0 when its input does; with 3 if a byte outside the buffer
+ * was changed; else with 2.
  *
  * The writers are rev_write_opening and so on, unless -DPLAIN takes those of bench/plain.h.
  */
@@ -20,9 +21,9 @@
 #define WRITE(kind) rev_write_##kind
 #endif
 
-enum { ROOM = 256, GUARD = 64, TEXT = 4096, KINDS = 6, FIELDS = 27 };
+enum { ROOM = 256, GUARD = 64, TEXT = 4096, KINDS = 6, FIELDS = 29 };
 
-static const size_t fields_length[1 + KINDS] = {0, 11, 10, FIELDS, 2, 0, 4};
+static const size_t fields_length[1 + KINDS] = {0, 12, 11, FIELDS, 2, 0, 4};
 
 static uint8_t guarded[GUARD + ROOM + GUARD], text[TEXT];
 static uint8_t *const out = guarded + GUARD;
@@ -37,16 +38,18 @@ static uint64_t eight_bytes(const uint8_t *at)
     return four_bytes(at) | (uint64_t)four_bytes(at + 4) << 32;
 }
 
+/* The three parameters of a telephone number, which are 10 bytes. */
+#define NUMBER(at) (at)[0], (at)[1], eight_bytes((at) + 2)
+
 static uint32_t write_event(unsigned kind, const uint8_t *at, size_t room)
 {
     switch (kind) {
     case 1:
-        return WRITE(opening)(at[0], at[1], at[2], eight_bytes(at + 3), out, room);
+        return WRITE(opening)(at[0], at[1], NUMBER(at + 2), out, room);
     case 2:
-        return WRITE(request)(at[0], at[1], eight_bytes(at + 2), out, room);
+        return WRITE(request)(at[0], NUMBER(at + 1), out, room);
     case 3:
-        return WRITE(message)(at[0], at[1], at[2], at[3], at[4], at[5], eight_bytes(at + 6), at[14], eight_bytes(at + 15),
-                              four_bytes(at + 23), out, room);
+        return WRITE(message)(at[0], at[1], at[2], at[3], at[4], NUMBER(at + 5), NUMBER(at + 15), four_bytes(at + 25), out, room);
     case 4:
         return WRITE(access)(at[0], at[1], out, room);
     case 5:

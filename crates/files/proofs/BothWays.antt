@@ -2,7 +2,7 @@
 -- Assumes nothing.
 use mathlib.Core.Path.{_≡_, refl, sym, ap, ap₂, subst, _∙_}
 use mathlib.Core.List.{List, [], _∷_, _++_, append-assoc}
-use mathlib.Core.Bool.{Bool, true, _&&_, _||_}
+use mathlib.Core.Bool.{Bool, true, false, _&&_, _||_}
 use Prim.Native.Nat.{ℕ, zero, suc, _+_, _-_, _*_, _^_, _≤_, _<_}
 use native.Mathlib.Nat.{zero-add}
 use native.Mathlib.Omega.{arith}
@@ -13,7 +13,7 @@ use borrow.Author.Tests.{eqb-true}
 use Rattle.text.specs.Choose.{ifEq, ifSo}
 use Rattle.text.proofs.Cases.{no-lt, yes-eq, no-eq, yes-le, no-le, both-lt, both-le, both-eq}
 use Rattle.rows.specs.Read.{bit}
-use Rattle.rows.specs.Valid.{eventOk, messageOk, componentOk, partsOk}
+use Rattle.rows.specs.Valid.{numberThere, eventOk, openingOk, messageOk, componentOk, partsOk}
 use Rattle.rows.specs.Valid.{numberIf as numberOk}
 use Rattle.rows.specs.declared.Component.{Component}
 use Rattle.rows.specs.declared.Component.the-variants.{Absent, Invoke, Result, Error, Reject, Unknown}
@@ -23,15 +23,16 @@ use Rattle.rows.specs.declared.Message.{Message}
 use Rattle.rows.specs.declared.Number.{Number}
 use Rattle.rows.proofs.Truth.{left, right, differ}
 use Rattle.files.specs.Bytes.{byteAt, leAt, leOf, part}
-use Rattle.files.specs.Fields.{messageFields, sizeOf, valuesAt, bytesOf}
+use Rattle.files.specs.Fields.{openingFields, askFields, messageFields, sizeOf, valuesAt, bytesOf}
 use Rattle.files.specs.Frames.{lengthWith, lengthOf, frameOf, frameAt}
-use Rattle.files.specs.Bodies.{componentOf, codeOf, itemOf, kindOf, fieldsOf, valuesOf, headOf, recordOf, eventAt, readBy, readAt}
+use Rattle.files.specs.Bodies.{countOf, countByte, numberBy, componentOf, codeOf, itemOf, kindOf, fieldsOf, valuesOf, headOf, recordOf, eventAt, readBy, readAt}
 use Rattle.files.specs.Bodies.{openingFrom, askFrom, messageFrom, accessFrom, timeFrom, openingAt, askAt, messageAt, accessAt, timeAt}
 use Rattle.files.specs.Typed.{AllBytes, TypedNumber, Typed, fileOf, Writable}
-use Rattle.files.specs.Write.{numberWith, messageWith}
+use Rattle.files.specs.Write.{natureWith, numberWith, messageWith}
 use Rattle.files.specs.Shown.{whole, Contents, andThen, contentsFrom, contentsOf, eventsOf}
 use Rattle.files.specs.declared.Frame.{Frame}
 use Rattle.files.specs.declared.Read.{Read}
+use Rattle.files.proofs.CountByte.{count-typed, byte-again, number-again, there-small, named-small, there-byte, named-byte, absent-byte}
 use Rattle.files.proofs.Records.{le-one}
 use Rattle.files.proofs.Stored.{Fits, Holds, holds-between, le-within, fields-length, fields-back, fields-again, fields-bytes}
 
@@ -39,12 +40,9 @@ use Rattle.files.proofs.Stored.{Fits, Holds, holds-between, le-within, 
 
 -- a number that no part names has no bytes, and is 0
 number-fits : (present : ℕ) (n : Number) → present < 2 → TypedNumber n → numberOk (eqb present 1) n ≡ true
-    → (n .count < 256 ^ present) × (n .value < 256 ^ (8 * present))
-number-fits zero n g h e =
-    let c : n .count ≡ 0 = eqb-true (n .count) 0 (left (eqb (n .count) 0) (eqb (n .value) 0) e) in
-    let v : n .value ≡ 0 = eqb-true (n .value) 0 (right (eqb (n .count) 0) (eqb (n .value) 0) e) in
-    (omega arith, omega arith)
-number-fits (suc zero) n g h e = h
+    → (countByte (n .nature) (n .count) < 256 ^ present) × (n .value < 256 ^ (8 * present))
+number-fits zero n g h e = let (c, v) = absent-byte n e in (omega (arith, c), omega (arith, v))
+number-fits (suc zero) n g h e = (named-byte true n e, h .1)
 number-fits (suc (suc k)) n g h e = absurd (omega arith)
 
 duration-fits : (present n : ℕ) → present < 2 → n < 2 ^ 32 → (eqb present 1 || eqb n 0) ≡ true → n < 256 ^ (4 * present)
@@ -69,9 +67,12 @@ message-parts m h =
     some-of (leb 1 (m .kind) && leb (m .kind) 5) (leb (m .cause) 127) (componentOk (m .component)) (partsOk (m .parts))
     (numberOk (bit 16 (m .parts)) (m .calling)) (numberOk (bit 32 (m .parts)) (m .called)) (bit 64 (m .parts) || eqb (m .duration) 0) h
 
+opening-there : (role flags : ℕ) (own : Number) → openingOk role flags own ≡ true → numberThere own ≡ true
+opening-there role flags own k = right (leb flags 31) _ (right (leb role 1) _ k)
+
 pub fits : (e : Event) → eventOk e ≡ true → Typed e → Fits (fieldsOf e) (valuesOf e)
-fits (Opening role flags own) k h = (h .0, (h .1, (h .2 .0, (h .2 .1, tt))))
-fits (Ask item called) k h = (h .0, (h .1 .0, (h .1 .1, tt)))
+fits (Opening role flags own) k h = (h .0, (h .1, (there-byte own (opening-there role flags own k), (h .2 .1, tt))))
+fits (Ask item called) k h = (h .0, (named-byte (leb item 1) called (right (leb item 3) _ k), (h .1 .1, tt)))
 fits (Received m) k h =
     let o = message-parts m k in
     let p = number-fits (part (m .parts) 16) (m .calling) (omega arith) (h .5) (o .1) in
@@ -130,27 +131,36 @@ parts-at s b m v =
     let p : b + 1 + 1 + 1 + 1 ≡ b + 4 = omega arith in
     sym (ap (byteAt s) p) ∙ sym (le-one s (b + 1 + 1 + 1 + 1)) ∙ ap (λ (vs : List ℕ). getD vs 4 0) v
 
--- a message with this component
-abbrev withComponent : Message → Component → Message
-withComponent m c =
+-- a message with this component and these numbers
+abbrev remade : Message → Component → Number → Number → Message
+remade m c calling called =
     record {
       kind = m .kind;
       cause = m .cause;
       component = c;
       parts = m .parts;
-      calling = m .calling;
-      called = m .called;
+      calling = calling;
+      called = called;
       duration = m .duration;
     }
 
+message-back : (m : Message) → messageOk m ≡ true → messageFrom (valuesOf (Received m)) ≡ m
+message-back m k =
+    let p = message-parts m k in
+    let calling : Number = numberBy (countByte (m .calling .nature) (m .calling .count)) (m .calling .value) in
+    let called : Number = numberBy (countByte (m .called .nature) (m .called .count)) (m .called .value) in
+    ap (λ (c : Component). remade m c calling called) (component-back (m .component) (p .0))
+    ∙ ap (λ (n : Number). remade m (m .component) n called) (number-again (m .calling) (named-small (bit 16 (m .parts)) (m .calling) (p .1)))
+    ∙ ap (λ (n : Number). remade m (m .component) (m .calling) n) (number-again (m .called) (named-small (bit 32 (m .parts)) (m .called) (p .2)))
+
 event-back : (s : List ℕ) (b : ℕ) (e : Event) → eventOk e ≡ true → valuesAt s b (fieldsOf e) ≡ valuesOf e → eventAt s b (kindOf e) ≡ e
 unfolding eventAt openingAt askAt messageAt accessAt timeAt ifEq ifSo
-event-back s b (Opening role flags own) k v = ap openingFrom v
-event-back s b (Ask item called) k v = ap askFrom v
+event-back s b (Opening role flags own) k v =
+    ap openingFrom v ∙ ap (Opening role flags) (number-again own (there-small own (opening-there role flags own k)))
+event-back s b (Ask item called) k v =
+    ap askFrom v ∙ ap (Ask item) (number-again called (named-small (leb item 1) called (right (leb item 3) _ k)))
 event-back s b (Received m) k v =
-    ap Received (ap (λ (n : ℕ). messageFrom (valuesAt s b (messageFields n))) (parts-at s b m v)
-    ∙ ap messageFrom v
-    ∙ ap (withComponent m) (component-back (m .component) (message-parts m k .0)))
+    ap Received (ap (λ (n : ℕ). messageFrom (valuesAt s b (messageFields n))) (parts-at s b m v) ∙ ap messageFrom v ∙ message-back m k)
 event-back s b (FromAccess item error) k v = ap accessFrom v
 event-back s b Expiry k v = refl
 event-back s b (Time seconds) k v = ap timeFrom v
@@ -259,14 +269,26 @@ item-again code n =
     both-eq _ _ P _ _ (λ _. refl) λ _.
     both-eq _ _ P _ _ (λ _. refl) (λ _. refl)
 
--- a message's values, of the message that they make
-values-again : (a b c d e f g h i j : ℕ) → let vs : List ℕ = a ∷ b ∷ c ∷ d ∷ e ∷ f ∷ g ∷ h ∷ i ∷ j ∷ [] in
+-- a message's values, of the message that they make: f and h are the count bytes of its numbers
+values-again : (a b c d e f g h i j : ℕ) → f < 256 → h < 256 → let vs : List ℕ = a ∷ b ∷ c ∷ d ∷ e ∷ f ∷ g ∷ h ∷ i ∷ j ∷ [] in
     valuesOf (Received (messageFrom vs)) ≡ vs
-values-again a b c d e f g h i j = rw (code-again c d, item-again c d)
+values-again a b c d e f g h i j p q = rw (code-again c d, item-again c d, byte-again f p, byte-again h q)
 
-message-again : (s : List ℕ) (b : ℕ) → valuesOf (Received (messageAt s b)) ≡ valuesAt s b (messageFields (byteAt s (b + 4)))
+-- a field of at most one byte
+small-field : (w : ℕ) (s : List ℕ) (i : ℕ) → w < 2 → AllBytes s → leAt w s i < 256
+small-field w s i h a = le-within w 1 s i (omega arith) a
+
+message-again : (s : List ℕ) (b : ℕ) → AllBytes s → valuesOf (Received (messageAt s b)) ≡ valuesAt s b (messageFields (byteAt s (b + 4)))
 unfolding messageAt valuesAt
-message-again s b = values-again _ _ _ _ _ _ _ _ _ _
+message-again s b a = values-again _ _ _ _ _ _ _ _ _ _ (small-field _ s _ (omega arith) a) (small-field _ s _ (omega arith) a)
+
+opening-again : (s : List ℕ) (b : ℕ) → AllBytes s → valuesOf (openingAt s b) ≡ valuesAt s b openingFields
+unfolding openingAt valuesAt
+opening-again s b a = rw (byte-again (leAt 1 s (b + 1 + 1)) (small-field 1 s (b + 1 + 1) (omega arith) a))
+
+ask-again : (s : List ℕ) (b : ℕ) → AllBytes s → valuesOf (askAt s b) ≡ valuesAt s b askFields
+unfolding askAt valuesAt
+ask-again s b a = rw (byte-again (leAt 1 s (b + 1)) (small-field 1 s (b + 1) (omega arith) a))
 
 parts-again : (s : List ℕ) (b : ℕ) → messageAt s b .parts ≡ byteAt s (b + 4)
 unfolding messageAt valuesAt
@@ -296,7 +318,7 @@ module _ (s : List ℕ) (at : ℕ) (a : AllBytes s) (l : at + 2 + leAt 2 s at �
       let p : at + 4 + 4 ≡ at + 8 = omega arith in
       let q : messageAt s (at + 4) .parts ≡ byteAt s (at + 8) = parts-again s (at + 4) ∙ ap (byteAt s) p in
       stands (Received (messageAt s (at + 4))) (f ∙ ap (λ (n : ℕ). lengthWith (messageFields n)) (sym q)) g
-      (message-again s (at + 4) ∙ ap (λ (n : ℕ). valuesAt s (at + 4) (messageFields n)) (sym (parts-again s (at + 4))))
+      (message-again s (at + 4) a ∙ ap (λ (n : ℕ). valuesAt s (at + 4) (messageFields n)) (sym (parts-again s (at + 4))))
 
 unknown-length : (kind parts : ℕ) → 6 < kind → lengthOf kind parts ≡ 0
 unfolding lengthOf
@@ -313,8 +335,8 @@ by-kind : (s : List ℕ) (at : ℕ) → AllBytes s → at + 2 + leAt 2 s at ≤ 
     → Stands s at (eventAt s (at + 4) kind) (at + 2 + leAt 2 s at)
 unfolding lengthOf eventAt openingAt askAt accessAt timeAt valuesAt ifEq ifSo
 by-kind s at a l zero g z f = absurd (z refl)
-by-kind s at a l (suc zero) g z f = stands s at a l (openingAt s (at + 4)) f g refl
-by-kind s at a l (suc (suc zero)) g z f = stands s at a l (askAt s (at + 4)) f g refl
+by-kind s at a l (suc zero) g z f = stands s at a l (openingAt s (at + 4)) f g (opening-again s (at + 4) a)
+by-kind s at a l (suc (suc zero)) g z f = stands s at a l (askAt s (at + 4)) f g (ask-again s (at + 4) a)
 by-kind s at a l (suc (suc (suc zero))) g z f = message-stands s at a l f g
 by-kind s at a l (suc (suc (suc (suc zero)))) g z f = stands s at a l (accessAt s (at + 4)) f g refl
 by-kind s at a l (suc (suc (suc (suc (suc zero))))) g z f = stands s at a l Expiry f g refl
@@ -353,9 +375,8 @@ read-stands s at a = both-le _ _ (ReadStands s at) _ _ (λ h. h) (λ _. by-frame
 -- ---- an event that is read of bytes has numbers of their types
 
 module _ (s : List ℕ) (a : AllBytes s) where
-  number-typed : (i present : ℕ) → present < 2 → (leAt present s i < 256) × (leAt (8 * present) s (i + present) < 2 ^ 64)
-  number-typed i present h =
-      (le-within present 1 s i (omega arith) a, le-within (8 * present) 8 s (i + present) (omega arith) a)
+  number-typed : (i present : ℕ) → present < 2 → (countOf (leAt present s i) < 256) × (leAt (8 * present) s (i + present) < 2 ^ 64)
+  number-typed i present h = (count-typed (leAt present s i), le-within (8 * present) 8 s (i + present) (omega arith) a)
 
   message-typed : (b : ℕ) → Typed (Received (messageAt s b))
   unfolding messageAt valuesAt
@@ -451,12 +472,17 @@ again-from (suc k) s at a h e =
 pub record-range : (e : Event) → (4 ≤ length (recordOf e)) × (length (recordOf e) ≤ 31)
 record-range e = let l = record-length e in let b = body-length e in (omega arith, omega arith)
 
+passed-byte : (x : Bool) (count : ℕ) → countByte (natureWith x) count ≡ ifSo x (128 + count) count
+unfolding ifSo
+passed-byte true count = refl
+passed-byte false count = refl
+
 -- What a host in C passes for a message stands in the record as it was passed, in the order of the parameters.
-pub message-passed : (kind cause code item parts callingCount callingValue calledCount calledValue duration : ℕ)
-    → valuesOf (messageWith kind cause code item parts (numberWith callingCount callingValue) (numberWith calledCount calledValue) duration)
-    ≡ kind ∷ cause ∷ code ∷ item ∷ parts ∷ callingCount ∷ callingValue ∷ calledCount ∷ calledValue ∷ duration ∷ []
-message-passed kind cause code item parts callingCount callingValue calledCount calledValue duration =
-    rw (code-again code item, item-again code item)
+pub message-passed : (kind cause code item parts : ℕ) (x : Bool) (i v : ℕ) (y : Bool) (j w duration : ℕ)
+    → valuesOf (messageWith kind cause code item parts (numberWith x i v) (numberWith y j w) duration)
+    ≡ kind ∷ cause ∷ code ∷ item ∷ parts ∷ ifSo x (128 + i) i ∷ v ∷ ifSo y (128 + j) j ∷ w ∷ duration ∷ []
+message-passed kind cause code item parts x i v y j w duration =
+    rw (code-again code item, item-again code item, passed-byte x i, passed-byte y j)
 
 -- An event in range, written at any place, reads back as itself, whatever stands before and after it; and reading goes on where it ends.
 pub written-reads-back : (e : Event) → eventOk e ≡ true → Typed e → (p q : List ℕ)

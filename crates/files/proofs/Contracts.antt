@@ -17,6 +17,7 @@ use ghost.Atoms.{Atoms}
 use prog.Memory.{Memory}
 use prog.Routine.{Routine}
 use prog.Wp.{Heap}
+use Rattle.rows.specs.Telephone.{sameNumber}
 use Rattle.rows.specs.declared.Event.the-variants.{Opening, Ask, FromAccess, Expiry, Time}
 use Rattle.files.specs.Bodies.{readAt}
 use Rattle.files.specs.Dump.{dumpOf}
@@ -34,6 +35,7 @@ use Rattle.files.proofs.lent.open as opens
 use Rattle.files.proofs.listing.rev_listing as rev-listing
 use Rattle.files.proofs.places.count_records as count-records
 use Rattle.files.proofs.words.says as says
+use Rattle.files.proofs.write.rev_same_number as rev-same-number
 use Rattle.files.proofs.write.rev_write_access as rev-write-access
 use Rattle.files.proofs.write.rev_write_expiry as rev-write-expiry
 use Rattle.files.proofs.write.rev_write_message as rev-write-message
@@ -102,13 +104,13 @@ module _ {M : Type 1} (𝓤 : URA M) (H : Heap 𝓤) (A : Atoms 𝓤) (mem : Mem
   pub rev-write-opening-says : (κs : Lfts 1) (a : Args rev-write-opening.signature κs) →
       rev-write-opening.spec 𝓤 H A mem run κs a
       ≡ Promises rev-write-opening.ended κs a
-      (λ r last. Numbered (Opening (a .0) (a .1 .0) (numberWith (a .1 .1 .0) (a .1 .1 .1 .0))) (now (a .1 .1 .1 .1 .0)) r (now (last .1 .1 .1 .1 .0)))
+      (λ r last. Numbered (Opening (a .0) (a .1 .0) (numberWith (a .1 .1 .0) (a .1 .1 .1 .0) (a .1 .1 .1 .1 .0))) (now (a .1 .1 .1 .1 .1 .0)) r (now (last .1 .1 .1 .1 .1 .0)))
   rev-write-opening-says κs a = refl
 
   pub rev-write-request-says : (κs : Lfts 1) (a : Args rev-write-request.signature κs) →
       rev-write-request.spec 𝓤 H A mem run κs a
       ≡ Promises rev-write-request.ended κs a
-      (λ r last. Numbered (Ask (a .0) (numberWith (a .1 .0) (a .1 .1 .0))) (now (a .1 .1 .1 .0)) r (now (last .1 .1 .1 .0)))
+      (λ r last. Numbered (Ask (a .0) (numberWith (a .1 .0) (a .1 .1 .0) (a .1 .1 .1 .0))) (now (a .1 .1 .1 .1 .0)) r (now (last .1 .1 .1 .1 .0)))
   rev-write-request-says κs a = refl
 
   pub rev-write-message-says : (κs : Lfts 1) (a : Args rev-write-message.signature κs) →
@@ -116,9 +118,9 @@ module _ {M : Type 1} (𝓤 : URA M) (H : Heap 𝓤) (A : Atoms 𝓤) (mem : Mem
       ≡ Promises rev-write-message.ended κs a
       (λ r last. Numbered
       (messageWith (a .0) (a .1 .0) (a .1 .1 .0) (a .1 .1 .1 .0) (a .1 .1 .1 .1 .0)
-      (numberWith (a .1 .1 .1 .1 .1 .0) (a .1 .1 .1 .1 .1 .1 .0))
-      (numberWith (a .1 .1 .1 .1 .1 .1 .1 .0) (a .1 .1 .1 .1 .1 .1 .1 .1 .0)) (a .1 .1 .1 .1 .1 .1 .1 .1 .1 .0))
-      (now (a .1 .1 .1 .1 .1 .1 .1 .1 .1 .1 .0)) r (now (last .1 .1 .1 .1 .1 .1 .1 .1 .1 .1 .0)))
+      (numberWith (a .1 .1 .1 .1 .1 .0) (a .1 .1 .1 .1 .1 .1 .0) (a .1 .1 .1 .1 .1 .1 .1 .0))
+      (numberWith (a .1 .1 .1 .1 .1 .1 .1 .1 .0) (a .1 .1 .1 .1 .1 .1 .1 .1 .1 .0) (a .1 .1 .1 .1 .1 .1 .1 .1 .1 .1 .0)) (a .1 .1 .1 .1 .1 .1 .1 .1 .1 .1 .1 .0))
+      (now (a .1 .1 .1 .1 .1 .1 .1 .1 .1 .1 .1 .1 .0)) r (now (last .1 .1 .1 .1 .1 .1 .1 .1 .1 .1 .1 .1 .0)))
   rev-write-message-says κs a = refl
 
   pub rev-write-access-says : (κs : Lfts 1) (a : Args rev-write-access.signature κs) →
@@ -135,6 +137,13 @@ module _ {M : Type 1} (𝓤 : URA M) (H : Heap 𝓤) (A : Atoms 𝓤) (mem : Mem
       rev-write-time.spec 𝓤 H A mem run κs a
       ≡ Promises rev-write-time.ended κs a (λ r last. Numbered (Time (a .0)) (now (a .1 .0)) r (now (last .1 .0)))
   rev-write-time-says κs a = refl
+
+  -- two numbers, three parameters each
+  pub rev-same-number-says : (κs : Lfts 0) (a : Args rev-same-number.signature κs) →
+      rev-same-number.spec 𝓤 H A mem run κs a
+      ≡ Promises rev-same-number.ended κs a
+      (λ r last. r ≡ sameNumber (numberWith (a .0) (a .1 .0) (a .1 .1 .0)) (numberWith (a .1 .1 .1 .0) (a .1 .1 .1 .1 .0) (a .1 .1 .1 .1 .1 .0)))
+  rev-same-number-says κs a = refl
 
   -- a .0 is the line, a .1 .0 the event
   pub says-says : (κs : Lfts 1) (a : Args says.signature κs) →

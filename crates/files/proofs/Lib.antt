@@ -1,6 +1,8 @@
+pub mod Apart
 pub mod Billed
 pub mod BothWays
 pub mod Contracts
+pub mod CountByte
 pub mod Eight
 pub mod Fits
 pub mod GivenBack
@@ -14,6 +16,7 @@ pub mod Stored
 pub mod Texts
 pub mod Theorems
 pub mod Turns
+pub mod TwoRooms
 pub mod Unread
 pub mod Values
 pub mod Worked

@@ -3,7 +3,7 @@
 use mathlib.Core.Bool.{Bool, true, false}
 use mathlib.Core.Path.{_≡_, refl, sym, ap, _∙_}
 use mathlib.Core.List.{List, [], _∷_, _++_, append-assoc, append-nil}
-use Prim.Native.Nat.{ℕ, zero, _+_, _*_, _/_, _%_, _≤_, _<_}
+use Prim.Native.Nat.{ℕ, zero, _+_, _*_, _/_, _%_, _^_, _≤_, _<_}
 use native.Mathlib.Nat.{zero-add}
 use native.Mathlib.Numerals.{add-one}
 use native.Mathlib.Omega.{arith}
@@ -18,9 +18,11 @@ use Rattle.rows.specs.declared.Component.{Component}
 use Rattle.rows.specs.declared.Event.{Event}
 use Rattle.rows.specs.declared.Event.the-variants.{Opening, Ask, Received, FromAccess, Expiry, Time}
 use Rattle.rows.specs.declared.Message.{Message}
+use Rattle.rows.specs.declared.Nature.{Nature}
+use Rattle.rows.specs.declared.Nature.the-variants.{National, International}
 use Rattle.rows.specs.declared.Number.{Number}
-use Rattle.files.specs.Bodies.{componentOf, codeOf, itemOf, numberValues, frontValues, carriedValues, kindOf, fieldsOf, valuesOf}
-use Rattle.files.specs.Bodies.{headOf, recordOf}
+use Rattle.files.specs.Bodies.{countByte, componentOf, codeOf, itemOf, numberValues, frontValues, carriedValues, kindOf, fieldsOf}
+use Rattle.files.specs.Bodies.{valuesOf, headOf, recordOf}
 use Rattle.files.specs.Bytes.{leOf, part}
 use Rattle.files.specs.Fields.{numberFields, openingFields, askFields, frontFields, carriedFields, messageFields, accessFields}
 use Rattle.files.specs.Fields.{expiryFields, timeFields}
@@ -89,9 +91,25 @@ put-fields : {l₀ l₁ l₂ : List ℕ} {i j k : ℕ} (ws us vs xs : List ℕ) 
     → Put l₀ i (bytesOf (ws ++ us) (vs ++ xs)) l₂ k
 put-fields ws us vs xs h p q = put-as (sym (bytes-join ws us vs xs h)) (put-after q p)
 
-pub number-as : (l₀ l₁ l₂ : List ℕ) (i j k : ℕ) (n : Number) → Put l₀ i (leOf 1 (n .count)) l₁ j → Put l₁ j (leOf 8 (n .value)) l₂ k
+-- a byte cut off is the same byte
+cut-byte : (v : ℕ) → leOf 1 (v % 256) ≡ leOf 1 v
+unfolding leOf
+cut-byte v = let e : v % 256 % 256 ≡ v % 256 = omega arith in ap (λ (b : ℕ). b ∷ []) e
+
+-- the count byte by the nature that was matched
+pub home-byte : (nature : Nature) (count : ℕ) → count < 256 → nature ≡ National → count ≡ countByte nature count % 256
+home-byte nature count h e = rw e (omega arith)
+
+pub abroad-byte : (nature : Nature) (count r : ℕ) → nature ≡ International → r ≡ (128 + count) % 2 ^ 8 → r ≡ countByte nature count % 256
+abroad-byte nature count r e f = f ∙ rw e refl
+
+-- byte: the count byte as it was made
+pub number-as : (l₀ l₁ l₂ : List ℕ) (i j k byte : ℕ) (n : Number) → byte ≡ countByte (n .nature) (n .count) % 256 → Put l₀ i (leOf 1 byte) l₁ j
+    → Put l₁ j (leOf 8 (n .value)) l₂ k
     → Put l₀ i (bytesOf (numberFields 1) (numberValues n)) l₂ k
-number-as l₀ l₁ l₂ i j k n p q = put-field 1 (n .count) (8 ∷ []) (n .value ∷ []) p (put-last 8 (n .value) q)
+number-as l₀ l₁ l₂ i j k byte n e p q =
+    let counted = countByte (n .nature) (n .count) in
+    put-field 1 counted (8 ∷ []) (n .value ∷ []) (put-as (ap (leOf 1) e ∙ cut-byte counted) p) (put-last 8 (n .value) q)
 
 -- a number, or a duration, that is there or not: present is 1 or 0
 module _ (l new : List ℕ) (i j present : ℕ) where
@@ -241,17 +259,21 @@ pub numbered-as : (e : Event) (out new : List ℕ) (w : Written) (r : ℕ) → r
     → (r ≡ numberOf (writtenOf e out)) × (new ≡ leftOf e out)
 numbered-as e out new w r f (a, b) = (f ∙ ap numberOf a, b)
 
--- a message by its fields, with the component that was made of code and item
-pub message-made : (kind cause code item parts duration r : ℕ) (component : Component) (calling called : Number) (out new : List ℕ) (w : Written)
-    → component ≡ componentOf code item
-    → r ≡ numberOf w
-    → (w ≡ writtenOf
-    (Received (record { kind = kind; cause = cause; component = component; parts = parts; calling = calling; called = called; duration = duration })) out)
-    × (new ≡ leftOf
-    (Received (record { kind = kind; cause = cause; component = component; parts = parts; calling = calling; called = called; duration = duration })) out)
-    → (r ≡ numberOf (writtenOf (messageWith kind cause code item parts calling called duration) out))
-    × (new ≡ leftOf (messageWith kind cause code item parts calling called duration) out)
-message-made kind cause code item parts duration r component calling called out new w e f (a, b) =
-    let made : Component → Event = λ (c : Component).
-    Received (record { kind = kind; cause = cause; component = c; parts = parts; calling = calling; called = called; duration = duration }) in
-    (f ∙ ap numberOf (a ∙ ap (λ (c : Component). writtenOf (made c) out) e), b ∙ ap (λ (c : Component). leftOf (made c) out) e)
+-- of an event f that was made of what a host passed for e
+pub passed-as : (e f : Event) (out new : List ℕ) (w : Written) (r : ℕ) → f ≡ e → r ≡ numberOf w → (w ≡ writtenOf f out) × (new ≡ leftOf f out)
+    → (r ≡ numberOf (writtenOf e out)) × (new ≡ leftOf e out)
+passed-as e f out new w r g h p = numbered-as e out new w r h (matched-as e f out new w (sym g) p)
+
+pub opening-made : (role flags : ℕ) (own own′ : Number) → own ≡ own′ → Opening role flags own ≡ Opening role flags own′
+opening-made role flags own own′ e = ap (Opening role flags) e
+
+pub ask-made : (item : ℕ) (called called′ : Number) → called ≡ called′ → Ask item called ≡ Ask item called′
+ask-made item called called′ e = ap (Ask item) e
+
+-- a message by its fields, with the component and the numbers that were made
+pub message-made : (kind cause code item parts duration : ℕ) (component : Component) (calling calling′ called called′ : Number)
+    → component ≡ componentOf code item → calling ≡ calling′ → called ≡ called′
+    → Received
+    (record { kind = kind; cause = cause; component = component; parts = parts; calling = calling; called = called; duration = duration })
+    ≡ messageWith kind cause code item parts calling′ called′ duration
+message-made kind cause code item parts duration component calling calling′ called called′ e f g = rw (e, f, g)

@@ -6,13 +6,16 @@ use Prim.Native.Nat.{ℕ, zero, suc, _+_, _*_, _≤_, _<_}
 use native.Mathlib.Nat.{add-assoc}
 use native.Mathlib.Omega.{arith}
 use lib.ListN.{length, List·getD-eq-default}
+use Rattle.rows.specs.Telephone.{absent}
 use Rattle.rows.specs.declared.Component.{Component}
 use Rattle.rows.specs.declared.Event.{Event}
 use Rattle.rows.specs.declared.Event.the-variants.{Opening, Ask, FromAccess, Time}
+use Rattle.rows.specs.declared.Nature.{Nature}
 use Rattle.rows.specs.declared.Number.{Number}
+use Rattle.text.specs.Choose.{ifLt, ifSo}
 use Rattle.text.proofs.Cases.{no-le, both-lt, both-le, both-eq}
 use Rattle.files.specs.Bytes.{byteAt, leAt, part}
-use Rattle.files.specs.Bodies.{numberIf, numberValues, messageFrom, openingAt, askAt, componentOf, messageAt, accessAt, timeAt, eventAt}
+use Rattle.files.specs.Bodies.{natureOf, countOf, numberIf, messageFrom, openingAt, askAt, componentOf, messageAt, accessAt, timeAt, eventAt}
 use Rattle.files.specs.Bodies.{readBy, readAt}
 use Rattle.files.specs.Fields.{numberFields, carriedFields, messageFields, sizeOf, valuesAt}
 use Rattle.files.specs.Frames.{lengthWith, lengthOf, frameOf, frameAt}
@@ -42,16 +45,18 @@ pub le-one : (s : List ℕ) (i : ℕ) → leAt 1 s i ≡ byteAt s i
 unfolding leAt
 le-one s i = omega arith
 
-pub number-as : (s : List ℕ) (i count value : ℕ) → count ≡ byteAt s i → value ≡ leAt 8 s (i + 1) → record { count = count; value = value } ≡ numberIf s i 1
+-- by the count byte that was read, and its halves
+pub number-as : (s : List ℕ) (i byte count value : ℕ) (nature : Nature) → byte ≡ byteAt s i → nature ≡ natureOf byte → count ≡ countOf byte
+    → value ≡ leAt 8 s (i + 1) → record { nature = nature; count = count; value = value } ≡ numberIf s i 1
 unfolding numberIf valuesAt
-number-as s i count value e f = simp (e, f, le-one)
+number-as s i byte count value nature e f g h = rw (h, g, f, e, le-one s i)
 
 -- present or not: a field of no bytes is 0
 pub number-there : (s : List ℕ) (i present : ℕ) (n : Number) → present ≡ 1 → n ≡ numberIf s i 1 → n ≡ numberIf s i present
 number-there s i present n e f = f ∙ ap (numberIf s i) (sym e)
 
-no-bytes : (s : List ℕ) (i : ℕ) → (record { count = 0; value = 0 } ≡ numberIf s i 0) × (0 ≡ leAt 0 s i)
-unfolding numberIf valuesAt leAt
+no-bytes : (s : List ℕ) (i : ℕ) → (absent ≡ numberIf s i 0) × (0 ≡ leAt 0 s i)
+unfolding numberIf natureOf countOf ifLt ifSo valuesAt leAt
 no-bytes s i = (refl, refl)
 
 -- what is neither of two is the other
@@ -60,7 +65,7 @@ not-one zero g h = refl
 not-one (suc zero) g h = absurd (h refl)
 not-one (suc (suc k)) g h = absurd (omega arith)
 
-pub number-none : (s : List ℕ) (i present : ℕ) → present < 2 → (present ≡ 1 → ⊥) → record { count = 0; value = 0 } ≡ numberIf s i present
+pub number-none : (s : List ℕ) (i present : ℕ) → present < 2 → (present ≡ 1 → ⊥) → absent ≡ numberIf s i present
 number-none s i present g h = no-bytes s i .0 ∙ ap (numberIf s i) (not-one present g h)
 
 pub duration-there : (s : List ℕ) (i present n : ℕ) → present ≡ 1 → n ≡ leAt 4 s i → n ≡ leAt (4 * present) s i
@@ -88,8 +93,8 @@ time-as s b seconds e = rw e
 
 -- the numbers and the duration that a message carries from place i on; p, q, r: whether each is present
 carried : (s : List ℕ) (i p q r : ℕ) → valuesAt s i (numberFields p ++ numberFields q ++ (4 * r ∷ []))
-    ≡ numberValues (numberIf s i p) ++ numberValues (numberIf s (i + 9 * p) q) ++ (leAt (4 * r) s (i + 9 * p + 9 * q) ∷ [])
-unfolding numberIf valuesAt
+    ≡ leAt p s i ∷ leAt (8 * p) s (i + p) ∷ leAt q s (i + 9 * p) ∷ leAt (8 * q) s (i + 9 * p + q) ∷ leAt (4 * r) s (i + 9 * p + 9 * q) ∷ []
+unfolding valuesAt
 carried s i p q r =
     let f : i + p + 8 * p ≡ i + 9 * p = omega arith in
     let g : i + 9 * p + q + 8 * q ≡ i + 9 * p + 9 * q = omega arith in
@@ -113,7 +118,7 @@ pub message-as : (s : List ℕ) (b kind cause code n parts duration : ℕ) (comp
     → called ≡ numberIf s (b + 5 + 9 * part parts 16) (part parts 32)
     → duration ≡ leAt (4 * part parts 64) s (b + 5 + 9 * part parts 16 + 9 * part parts 32)
     → record { kind = kind; cause = cause; component = component; parts = parts; calling = calling; called = called; duration = duration } ≡ messageAt s b
-unfolding messageAt
+unfolding messageAt numberIf valuesAt
 message-as s b kind cause code n parts duration component calling called e f g h i j k l m =
     rw (m, l, k, i, h, g, f, e, j)
     (sym (ap messageFrom (fronted s b (carriedFields (byteAt s (b + 4)))

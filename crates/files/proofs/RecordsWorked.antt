@@ -1,34 +1,44 @@
 -- Worked records, one kind after another: the bytes that the writer has for an event, the event that the reader has for the bytes, and each
 -- refusal with the buffer that it leaves. The definitions compute.
 -- Assumes nothing.
+use mathlib.Core.Bool.{true, false}
 use mathlib.Core.List.{[], _∷_}
 use mathlib.Core.Path.{_≡_, refl}
 use Prim.Native.Nat.{ℕ}
 use Rattle.text.specs.Choose.{ifLt, ifLe, ifEq, ifSo}
-use Rattle.rows.specs.Read.{absent}
+use Rattle.rows.specs.Telephone.{absent}
 use Rattle.rows.specs.declared.Component.{Component}
 use Rattle.rows.specs.declared.Component.the-variants.{Absent, Invoke, Result, Error, Reject, Unknown}
 use Rattle.rows.specs.declared.Event.{Event}
 use Rattle.rows.specs.declared.Event.the-variants.{Opening, Ask, Received, FromAccess, Expiry, Time}
+use Rattle.rows.specs.declared.Nature.the-variants.{National, International}
 use Rattle.rows.specs.declared.Number.{Number}
-use Rattle.files.specs.Bodies.{openingAt, askAt, componentOf, numberIf, messageAt, accessAt, timeAt, eventAt, readAt, headOf}
+use Rattle.files.specs.Bodies.{natureOf, countOf, openingAt, askAt, componentOf, numberIf, messageAt, accessAt, timeAt, eventAt, readAt, headOf}
 use Rattle.files.specs.Bodies.{recordOf}
 use Rattle.files.specs.Bytes.{leAt, leOf}
 use Rattle.files.specs.Fields.{sizeOf, valuesAt, bytesOf}
 use Rattle.files.specs.Frames.{lengthOf, frameOf, frameAt}
-use Rattle.files.specs.Write.{writtenOf, leftOf}
+use Rattle.files.specs.Write.{numberWith, writtenOf, leftOf}
 use Rattle.files.specs.declared.Read.{Read}
 use Rattle.files.specs.declared.Written.the-variants.{Whole, BadField, NoRoom}
 
 own : Number
-own = record { count = 7; value = 5550100 }
+own = record { nature = National; count = 7; value = 5550100 }
 
 called : Number
-called = record { count = 7; value = 5550123 }
+called = record { nature = National; count = 7; value = 5550123 }
 
--- of fifteen digits
+-- of fifteen digits, abroad: its count byte is 128 + 15
 long : Number
-long = record { count = 15; value = 123456789012345 }
+long = record { nature = International; count = 15; value = 123456789012345 }
+
+-- 02 #103: two rooms that share the digits 5550123
+abroad : Number
+abroad = record { nature = International; count = 7; value = 5550123 }
+
+-- "A count of 0 has the bit clear"
+digitless : Number
+digitless = record { nature = International; count = 0; value = 0 }
 
 message : ℕ → ℕ → Component → ℕ → Number → Number → ℕ → Event
 message kind cause component parts calling dialled duration =
@@ -44,13 +54,17 @@ request-bytes : recordOf (Ask 1 called) ≡ 12 ∷ 0 ∷ 2 ∷ 0 ∷ 1 ∷ 7 ∷
 unfolding called recordOf headOf bytesOf sizeOf leOf
 request-bytes = refl
 
+abroad-bytes : recordOf (Ask 1 abroad) ≡ 12 ∷ 0 ∷ 2 ∷ 0 ∷ 1 ∷ 135 ∷ 43 ∷ 176 ∷ 84 ∷ 0 ∷ 0 ∷ 0 ∷ 0 ∷ 0 ∷ []
+unfolding abroad recordOf headOf bytesOf sizeOf leOf
+abroad-bytes = refl
+
 -- an ANM with the result of SETUP has no parts; a FAC with all of them has the longest record
 answer-bytes : recordOf (message 2 0 (Result 1) 0 absent absent 0) ≡ 7 ∷ 0 ∷ 3 ∷ 0 ∷ 2 ∷ 0 ∷ 2 ∷ 1 ∷ 0 ∷ []
 unfolding message recordOf headOf bytesOf sizeOf leOf
 answer-bytes = refl
 
 message-bytes : recordOf (message 5 0 (Invoke 3) 127 long called 305419896)
-    ≡ 29 ∷ 0 ∷ 3 ∷ 0 ∷ 5 ∷ 0 ∷ 1 ∷ 3 ∷ 127 ∷ 15 ∷ 121 ∷ 223 ∷ 13 ∷ 134 ∷ 72 ∷ 112 ∷ 0 ∷ 0 ∷ 7 ∷ 43 ∷ 176 ∷ 84 ∷ 0 ∷ 0 ∷ 0 ∷ 0 ∷ 0 ∷ 120 ∷ 86 ∷ 52 ∷ 18 ∷ []
+    ≡ 29 ∷ 0 ∷ 3 ∷ 0 ∷ 5 ∷ 0 ∷ 1 ∷ 3 ∷ 127 ∷ 143 ∷ 121 ∷ 223 ∷ 13 ∷ 134 ∷ 72 ∷ 112 ∷ 0 ∷ 0 ∷ 7 ∷ 43 ∷ 176 ∷ 84 ∷ 0 ∷ 0 ∷ 0 ∷ 0 ∷ 0 ∷ 120 ∷ 86 ∷ 52 ∷ 18 ∷ []
 unfolding message long called recordOf headOf bytesOf sizeOf leOf
 message-bytes = refl
 
@@ -85,17 +99,21 @@ time-bytes = refl
 -- ---- what is read of it, at a place with bytes around it
 
 opening-read : readAt (99 ∷ 13 ∷ 0 ∷ 1 ∷ 0 ∷ 0 ∷ 8 ∷ 7 ∷ 20 ∷ 176 ∷ 84 ∷ 0 ∷ 0 ∷ 0 ∷ 0 ∷ 0 ∷ 99 ∷ []) 1 ≡ Read.Got (Opening 0 8 own) 16
-unfolding own readAt frameAt frameOf lengthOf eventAt openingAt numberIf sizeOf valuesAt leAt ifLt ifLe ifEq ifSo
+unfolding own readAt frameAt frameOf lengthOf eventAt openingAt numberIf natureOf countOf sizeOf valuesAt leAt ifLt ifLe ifEq ifSo
 opening-read = refl
 
 request-read : readAt (99 ∷ 12 ∷ 0 ∷ 2 ∷ 0 ∷ 1 ∷ 7 ∷ 43 ∷ 176 ∷ 84 ∷ 0 ∷ 0 ∷ 0 ∷ 0 ∷ 0 ∷ 99 ∷ []) 1 ≡ Read.Got (Ask 1 called) 15
-unfolding called readAt frameAt frameOf lengthOf eventAt askAt numberIf sizeOf valuesAt leAt ifLt ifLe ifEq ifSo
+unfolding called readAt frameAt frameOf lengthOf eventAt askAt numberIf natureOf countOf sizeOf valuesAt leAt ifLt ifLe ifEq ifSo
 request-read = refl
 
+abroad-read : readAt (99 ∷ 12 ∷ 0 ∷ 2 ∷ 0 ∷ 1 ∷ 135 ∷ 43 ∷ 176 ∷ 84 ∷ 0 ∷ 0 ∷ 0 ∷ 0 ∷ 0 ∷ 99 ∷ []) 1 ≡ Read.Got (Ask 1 abroad) 15
+unfolding abroad readAt frameAt frameOf lengthOf eventAt askAt numberIf natureOf countOf sizeOf valuesAt leAt ifLt ifLe ifEq ifSo
+abroad-read = refl
+
 message-read : readAt
-    (99 ∷ 29 ∷ 0 ∷ 3 ∷ 0 ∷ 5 ∷ 0 ∷ 1 ∷ 3 ∷ 127 ∷ 15 ∷ 121 ∷ 223 ∷ 13 ∷ 134 ∷ 72 ∷ 112 ∷ 0 ∷ 0 ∷ 7 ∷ 43 ∷ 176 ∷ 84 ∷ 0 ∷ 0 ∷ 0 ∷ 0 ∷ 0 ∷ 120 ∷ 86 ∷ 52 ∷ 18 ∷ 99 ∷ []) 1
+    (99 ∷ 29 ∷ 0 ∷ 3 ∷ 0 ∷ 5 ∷ 0 ∷ 1 ∷ 3 ∷ 127 ∷ 143 ∷ 121 ∷ 223 ∷ 13 ∷ 134 ∷ 72 ∷ 112 ∷ 0 ∷ 0 ∷ 7 ∷ 43 ∷ 176 ∷ 84 ∷ 0 ∷ 0 ∷ 0 ∷ 0 ∷ 0 ∷ 120 ∷ 86 ∷ 52 ∷ 18 ∷ 99 ∷ []) 1
     ≡ Read.Got (message 5 0 (Invoke 3) 127 long called 305419896) 32
-unfolding message long called readAt frameAt frameOf lengthOf eventAt messageAt componentOf numberIf sizeOf valuesAt leAt ifLt ifLe ifEq ifSo
+unfolding message long called readAt frameAt frameOf lengthOf eventAt messageAt componentOf numberIf natureOf countOf sizeOf valuesAt leAt ifLt ifLe ifEq ifSo
 message-read = refl
 
 access-read : readAt (99 ∷ 4 ∷ 0 ∷ 4 ∷ 0 ∷ 2 ∷ 12 ∷ 99 ∷ []) 1 ≡ Read.Got (FromAccess 2 12) 7
@@ -109,6 +127,12 @@ expiry-read = refl
 time-read : readAt (99 ∷ 6 ∷ 0 ∷ 6 ∷ 0 ∷ 60 ∷ 0 ∷ 0 ∷ 0 ∷ 99 ∷ []) 1 ≡ Read.Got (Time 60) 9
 unfolding readAt frameAt frameOf lengthOf eventAt timeAt sizeOf valuesAt leAt ifLt ifLe ifEq ifSo
 time-read = refl
+
+-- ---- what a host in C passes
+
+passed-nature : (numberWith true 7 5550123 ≡ abroad) × (numberWith false 7 5550123 ≡ called)
+unfolding abroad called
+passed-nature = (refl, refl)
 
 -- ---- what is answered, and what the buffer then holds
 
@@ -140,6 +164,19 @@ fields-refused : (writtenOf (message 5 0 (Absent 0) 0 own absent 0) [] ≡ BadFi
     × (writtenOf (Opening 0 0 absent) [] ≡ BadField)
 unfolding message own writtenOf ifSo
 fields-refused = (refl, refl, refl, refl, refl, refl, refl)
+
+-- a number of no digits that says it is international, whether a number is wanted there or not; and a count that is no number of digits
+digitless-refused : (writtenOf (Opening 0 0 digitless) [] ≡ BadField)
+    × (writtenOf (Ask 0 digitless) [] ≡ BadField)
+    × (writtenOf (Ask 2 digitless) [] ≡ BadField)
+    × (writtenOf (Ask 2 absent) [] ≡ NoRoom)
+    × (writtenOf (message 5 0 (Absent 0) 0 digitless absent 0) [] ≡ BadField)
+    × (writtenOf (message 5 0 (Absent 0) 0 absent digitless 0) [] ≡ BadField)
+    × (writtenOf (message 5 0 (Absent 0) 16 digitless absent 0) [] ≡ BadField)
+    × (writtenOf (message 5 0 (Absent 0) 32 absent digitless 0) [] ≡ BadField)
+    × (writtenOf (Ask 0 (record { nature = National; count = 135; value = 5550123 })) [] ≡ BadField)
+unfolding message digitless writtenOf recordOf headOf bytesOf sizeOf leOf ifLt ifSo
+digitless-refused = (refl, refl, refl, refl, refl, refl, refl, refl, refl)
 
 -- in range, whatever a row would say: any Duration of 4 bytes, any error
 fields-in-range : (writtenOf (message 5 0 (Error 255) 64 absent absent 4294967295) [] ≡ NoRoom) × (writtenOf (FromAccess 2 255) [] ≡ NoRoom)

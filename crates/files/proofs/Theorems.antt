@@ -2,33 +2,44 @@
 -- (`listingOf`, `dumpOf`: the bytes of the two texts), Fit.antt (`answers`, `leaves`: what a host is given), Shown.antt (the records that
 -- a file shows), Bodies.antt (`readAt`, `recordOf`: a record's event and an event's record), Write.antt (`writtenOf`, `leftOf`),
 -- Typed.antt. Contracts.antt ties them to the contracts of the functions; the theorems about the rows are in crates/rows.
--- What a host gets is spelled out in HostWrites.antt (`Writes`), Billed.antt (`Gets`, `Line`) and Same.antt (`Fitted`, `Wrote`, `Numbered`).
+-- What a host gets is spelled out in HostWrites.antt (`Writes`), Billed.antt (`Gets`, `Line`) and Same.antt (`Fitted`, `Wrote`, `Numbered`);
+-- what two messages name, and what may follow a number, in Apart.antt (`NamedSame`, `Spaced`) and in `text` (`NoDigit`).
 -- Assumes nothing.
 use mathlib.Core.List.{List, [], _∷_, _++_}
 use mathlib.Core.Logic.{_↔_, _⊎_}
 use mathlib.Core.Option.{some}
 use mathlib.Core.Path.{_≡_, refl, _∙_, ap}
-use mathlib.Core.Bool.{true, not}
+use mathlib.Core.Bool.{Bool, true, not}
 use Prim.Native.Nat.{ℕ, _+_, _-_, _≤_, _<_}
 use native.Mathlib.Omega.{arith}
 use borrow.Author.Tests.{eqb-false}
 use lib.ListN.{length, take, drop, getElem?}
 use Rattle.rows.specs.History.{run}
-use Rattle.rows.specs.Step.{unopenedCall}
-use Rattle.rows.specs.Valid.{eventOk}
+use Rattle.rows.specs.Step.{unopenedCall, stepOf}
+use Rattle.rows.specs.Telephone.{sameNumber}
+use Rattle.rows.specs.Valid.{numberThere, eventOk}
+use Rattle.rows.specs.declared.Call.{Call}
 use Rattle.rows.specs.declared.Event.{Event}
+use Rattle.rows.specs.declared.Number.{Number}
+use Rattle.text.specs.Choose.{ifSo}
+use Rattle.text.specs.Value.{NoDigit}
 use Rattle.rows.proofs.Payers.{ten-for-the-unpaid, paid-on}
 use Rattle.rows.proofs.Stays.{nine-exactly, calls-stay, unopened-valid}
-use Rattle.files.specs.Bodies.{valuesOf, recordOf, readAt}
+use Rattle.files.specs.Bodies.{numberValues, valuesOf, recordOf, readAt}
 use Rattle.files.specs.Dump.{dumpOf}
+use Rattle.files.specs.Fields.{numberFields, bytesOf}
 use Rattle.files.specs.Fit.{answers}
 use Rattle.files.specs.Listing.{listingOf}
+use Rattle.files.specs.Messages.{numberText, sentText, releasedText}
 use Rattle.files.specs.Shown.{whole, contentsOf, eventsOf, Shown, shownOf}
-use Rattle.files.specs.Typed.{AllBytes, Typed, Writable, fileOf}
+use Rattle.files.specs.Typed.{AllBytes, TypedNumber, Typed, Writable, fileOf}
+use Rattle.files.specs.Words.{numberWord}
 use Rattle.files.specs.Write.{writtenOf, leftOf, numberOf, bytesWritten, numberWith, messageWith}
 use Rattle.files.specs.declared.Read.{Read}
 use Rattle.files.specs.declared.Written.{Written}
 use Rattle.files.specs.declared.Written.the-variants.{Whole}
+use Rattle.files.proofs.Apart
+use Rattle.files.proofs.Apart.{NamedSame, Spaced}
 use Rattle.files.proofs.Billed
 use Rattle.files.proofs.Billed.{Gets, Line}
 use Rattle.files.proofs.BothWays
@@ -37,6 +48,7 @@ use Rattle.files.proofs.GivenBack.{numbers-hold}
 use Rattle.files.proofs.HostWrites
 use Rattle.files.proofs.HostWrites.{Writes}
 use Rattle.files.proofs.Same.{Fitted, Wrote, Numbered}
+use Rattle.files.proofs.TwoRooms
 
 -- ---- From the bytes to the bill
 
@@ -135,12 +147,54 @@ file-of-events = BothWays.file-of-events
 pub events-of-file : (s : List ℕ) → AllBytes s → contentsOf s .ending ≡ whole → fileOf (eventsOf s) ≡ s
 events-of-file = BothWays.events-of-file
 
--- What a host in C passes for a message stands in the record as it was passed, in the order of the parameters.
-pub message-passed : (kind cause code item parts callingCount callingValue calledCount calledValue duration : ℕ) →
-    valuesOf (messageWith kind cause code item parts (numberWith callingCount callingValue) (numberWith calledCount calledValue) duration)
-    ≡ kind ∷ cause ∷ code ∷ item ∷ parts ∷ callingCount ∷ callingValue ∷ calledCount ∷ calledValue ∷ duration ∷ []
+-- What a host in C passes for a message stands in the record as it was passed, in the order of the parameters: of each number its count, 128
+-- more where the host says that it is international, and its value.
+pub message-passed : (kind cause code item parts : ℕ) (x : Bool) (i v : ℕ) (y : Bool) (j w duration : ℕ) →
+    valuesOf (messageWith kind cause code item parts (numberWith x i v) (numberWith y j w) duration)
+    ≡ kind ∷ cause ∷ code ∷ item ∷ parts ∷ ifSo x (128 + i) i ∷ v ∷ ifSo y (128 + j) j ∷ w ∷ duration ∷ []
 message-passed = BothWays.message-passed
 
 -- A record has 4 to 31 bytes.
 pub record-range : (e : Event) → (4 ≤ length (recordOf e)) × (length (recordOf e) ≤ 31)
 record-range = BothWays.record-range
+
+-- ---- Two rooms stay two (02 #103). `sameNumber` is what `same_number` and `rev_same_number` answer: equal nature, count and value
+-- (`same-number-exactly`, crates/rows).
+
+-- Numbers that are there have the same text exactly if they are the same: `+` and the digits tell all three ..
+pub same-text-same-number : (a b : Number) → numberThere a ≡ true → numberThere b ≡ true → (numberText a ≡ numberText b) ↔ (sameNumber a b ≡ true)
+same-text-same-number = TwoRooms.text-apart
+
+-- .. and in a line, too, what stands after them can be told apart from them.
+pub number-in-a-line : (a b : Number) → numberThere a ≡ true → numberThere b ≡ true → (s t : List ℕ) → NoDigit s → NoDigit t →
+    numberText a ++ s ≡ numberText b ++ t → (a ≡ b) × (s ≡ t)
+number-in-a-line = Apart.number-text
+
+-- Any two answers, of any two calls to any two events, that send a message of the same name with the same component and the same parts:
+-- the listing has the same line for both only if each number that the parts name is the same. No answer is left out, since every number
+-- that is sent is in range.
+pub same-line-same-numbers : (c d : Call) (e f : Event) (name : List ℕ) → stepOf c e .note .component ≡ stepOf d f .note .component →
+    stepOf c e .note .parts ≡ stepOf d f .note .parts → sentText name (stepOf c e .note) ≡ sentText name (stepOf d f .note) →
+    NamedSame (stepOf c e .note) (stepOf d f .note)
+same-line-same-numbers = TwoRooms.lines-apart
+
+-- A REL says its cause as well.
+pub same-release-same-numbers : (c d : Call) (e f : Event) → stepOf c e .note .cause ≡ stepOf d f .note .cause →
+    stepOf c e .note .component ≡ stepOf d f .note .component → stepOf c e .note .parts ≡ stepOf d f .note .parts →
+    releasedText (stepOf c e .note) ≡ releasedText (stepOf d f .note) → NamedSame (stepOf c e .note) (stepOf d f .note)
+same-release-same-numbers = TwoRooms.releases-apart
+
+-- In the dump every two numbers have different words, in range or not.
+pub same-word-same-number : (a b : Number) → TypedNumber a → TypedNumber b → (s t : List ℕ) → Spaced s → Spaced t →
+    numberWord a ++ s ≡ numberWord b ++ t → (a ≡ b) × (s ≡ t)
+same-word-same-number = Apart.number-word
+
+-- In a record they have the same bytes exactly if they are the same; of whole records `same-bytes-same-event` says it.
+pub same-bytes-same-number : (a b : Number) → numberThere a ≡ true → TypedNumber a → numberThere b ≡ true → TypedNumber b →
+    (bytesOf (numberFields 1) (numberValues a) ≡ bytesOf (numberFields 1) (numberValues b)) ↔ (sameNumber a b ≡ true)
+same-bytes-same-number = TwoRooms.bytes-apart
+
+-- What a host in C passes: two numbers are the same exactly if all three parameters are.
+pub passed-same-exactly : (x y : Bool) (i j v w : ℕ) →
+    (sameNumber (numberWith x i v) (numberWith y j w) ≡ true) ↔ ((x ≡ y) × (i ≡ j) × (v ≡ w))
+passed-same-exactly = TwoRooms.passed-same-exactly

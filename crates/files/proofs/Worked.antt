@@ -3,12 +3,14 @@
 use mathlib.Core.Path.{_≡_, refl}
 use mathlib.Core.List.{List, [], _∷_, _++_}
 use Prim.Native.Nat.{ℕ}
-use Rattle.rows.specs.Read.{absent}
+use Rattle.rows.specs.Telephone.{absent}
 use Rattle.rows.specs.declared.Component.the-variants.{Absent}
+use Rattle.rows.specs.declared.Nature.the-variants.{National, International}
 use Rattle.rows.specs.declared.Event.the-variants.{Received, Time}
 use Rattle.text.specs.Choose.{ifLt, ifLe, ifEq, ifSo}
 use Rattle.text.specs.Text.{ascii, lastDigits, decimal, decimalBy, numbered}
-use Rattle.files.specs.Bodies.{openingAt, askAt, componentOf, numberIf, messageAt, accessAt, timeAt, eventAt, readAt}
+use Rattle.files.specs.Bodies.{natureOf, countOf, openingAt, askAt, componentOf, numberIf, messageAt, accessAt, timeAt, eventAt}
+use Rattle.files.specs.Bodies.{readAt}
 use Rattle.files.specs.Bytes.{leAt}
 use Rattle.files.specs.Fields.{sizeOf, valuesAt}
 use Rattle.files.specs.Dump.{stopText, placeText, placesText, dumpOf}
@@ -16,7 +18,7 @@ use Rattle.files.specs.Frames.{lengthOf, frameOf, frameAt}
 use Rattle.files.specs.Lines.{standText, metersText, lineText, numberedLine, actionsText, recordText}
 use Rattle.files.specs.Listing.{answerOf, restOf, recordsOf, listingOf}
 use Rattle.files.specs.Messages.{operationText, withOperation, textIf, withDigits, partsText, valuesText, carriedText, sentText}
-use Rattle.files.specs.Messages.{releasedText}
+use Rattle.files.specs.Messages.{numberText, releasedText}
 use Rattle.files.specs.Places.{placeAfter, placesFrom, placesOf}
 use Rattle.files.specs.Words.{codeWord, digitsWord, valueText, countedWord, numberWord, roleWord, commaText, flagText, flagsText}
 use Rattle.files.specs.Words.{flagsWord, openingWords, askedWord, askWords, nameWord, operationWord, withOperationWord, unlessZero}
@@ -41,6 +43,12 @@ case-l =
     -- clear
     4 ∷ 0 ∷ 4 ∷ 0 ∷ 4 ∷ 0 ∷ []
 
+-- a room abroad that shares the digits of one at home, which it calls: opening with transfer; A
+case-abroad : List ℕ
+case-abroad =
+    13 ∷ 0 ∷ 1 ∷ 0 ∷ 0 ∷ 9 ∷ 135 ∷ 43 ∷ 176 ∷ 84 ∷ 0 ∷ 0 ∷ 0 ∷ 0 ∷ 0 ∷
+    12 ∷ 0 ∷ 2 ∷ 0 ∷ 1 ∷ 7 ∷ 43 ∷ 176 ∷ 84 ∷ 0 ∷ 0 ∷ 0 ∷ 0 ∷ 0 ∷ []
+
 -- "Sixty seconds are `06 00 06 00 3C 00 00 00`"; "a kind 3 length follows parts 16, 32 and 64 alone": one below 7 is 6, and
 -- part 128 does not change it; an unknown kind gives 7, "5 if bytes lack" before that, "6 for the kind" after; "digits (as many as the
 -- count)"; "a lone byte gives 5"; "Empty input gives `REV 1` and `END 0`"; case L
@@ -52,7 +60,14 @@ worked :
     × (readAt (2 ∷ 0 ∷ 7 ∷ 0 ∷ []) 0 ≡ Read.Stop 7)
     × (readAt (3 ∷ 0 ∷ 7 ∷ 0 ∷ []) 0 ≡ Read.Stop 5)
     × (readAt (3 ∷ 0 ∷ 5 ∷ 0 ∷ 0 ∷ []) 0 ≡ Read.Stop 6)
-    × (withDigits (ascii " CALLED ") (record { count = 8; value = 5550123 }) ≡ ascii " CALLED 05550123")
+    × (withDigits (ascii " CALLED ") (record { nature = National; count = 8; value = 5550123 }) ≡ ascii " CALLED 05550123")
+    × (withDigits (ascii " CALLED ") (record { nature = International; count = 8; value = 5550123 }) ≡ ascii " CALLED +05550123")
+    × (listingOf case-abroad
+    ≡ ascii "REV 1\n"
+    ++ ascii "1 0 NULL IDLE 0 0 0\n"
+    ++ ascii "2 0 SETUP WAIT-SETUP 0 0 0\n"
+    ++ ascii "> IAM INVOKE SETUP TRANSFER CALLING +5550123\n"
+    ++ ascii "END 2\n")
     × (listingOf (6 ∷ []) ≡ ascii "REV 1\n1 5 NONE IDLE 0 0 0\nEND 1\n")
     × (listingOf [] ≡ ascii "REV 1\nEND 0\n")
     × (listingOf case-l
@@ -71,8 +86,8 @@ worked :
     ++ ascii "> STOP\n"
     ++ ascii "> REL 16\n"
     ++ ascii "END 7\n")
-unfolding case-l listingOf recordsOf restOf answerOf placesOf placesFrom placeAfter recordText actionsText releasedText sentText carriedText numberedLine lineText metersText standText valuesText partsText withDigits textIf withOperation operationText readAt eventAt accessAt messageAt timeAt numberIf componentOf askAt openingAt frameAt frameOf lengthOf sizeOf valuesAt leAt numbered decimal decimalBy lastDigits ifLt ifLe ifEq ifSo
-worked = (refl, refl, refl, refl, refl, refl, refl, refl, refl, refl)
+unfolding case-l case-abroad listingOf recordsOf restOf answerOf placesOf placesFrom placeAfter recordText actionsText releasedText sentText carriedText numberedLine lineText metersText standText valuesText partsText withDigits numberText textIf withOperation operationText readAt eventAt accessAt messageAt timeAt numberIf natureOf countOf componentOf askAt openingAt frameAt frameOf lengthOf sizeOf valuesAt leAt numbered decimal decimalBy lastDigits ifLt ifLe ifEq ifSo
+worked = (refl, refl, refl, refl, refl, refl, refl, refl, refl, refl, refl, refl)
 
 -- a message with every field out of its range, and a byte more
 case-odd : List ℕ
@@ -80,8 +95,8 @@ case-odd =
     29 ∷ 0 ∷ 3 ∷ 0 ∷ 9 ∷ 200 ∷ 254 ∷ 253 ∷ 255 ∷
     -- count 0, value 1
     0 ∷ 1 ∷ 0 ∷ 0 ∷ 0 ∷ 0 ∷ 0 ∷ 0 ∷ 0 ∷
-    -- count 20, value 5
-    20 ∷ 5 ∷ 0 ∷ 0 ∷ 0 ∷ 0 ∷ 0 ∷ 0 ∷ 0 ∷
+    -- international, count 20, value 5
+    148 ∷ 5 ∷ 0 ∷ 0 ∷ 0 ∷ 0 ∷ 0 ∷ 0 ∷ 0 ∷
     255 ∷ 255 ∷ 255 ∷ 255 ∷ 7 ∷ []
 
 dumped :
@@ -94,9 +109,13 @@ dumped :
     ++ ascii "5 46 TIME 60\n"
     ++ ascii "6 54 REQUEST B -\n"
     ++ ascii "7 68 ACCESS CLEAR 0\n")
+    × (dumpOf case-abroad
+    ≡ ascii "RECORDS 2\n"
+    ++ ascii "1 0 OPENING originating transfer,interaction +5550123\n"
+    ++ ascii "2 15 REQUEST A 5550123\n")
     × (dumpOf case-odd
     ≡ ascii "RECORDS 2\n"
-    ++ ascii "1 0 MESSAGE 9 200 COMPONENT 254 253 TRANSFER ACCEPTED AS-TRANSFER PARTIAL CALLING 0:1 CALLED 20:5 DURATION 4294967295 PART 128\n"
+    ++ ascii "1 0 MESSAGE 9 200 COMPONENT 254 253 TRANSFER ACCEPTED AS-TRANSFER PARTIAL CALLING 0:1 CALLED +20:5 DURATION 4294967295 PART 128\n"
     ++ ascii "2 31 CUT-SHORT\n")
-unfolding case-l case-odd dumpOf placesText placeText stopText placesOf placesFrom placeAfter numberedLine codeWord digitsWord valueText countedWord numberWord roleWord commaText flagText flagsText flagsWord openingWords askedWord askWords nameWord operationWord withOperationWord unlessZero rejectWords unknownWords withNumber valuesWords messageWords toldWord accessWords partsText withDigits textIf operationText readAt eventAt accessAt messageAt timeAt numberIf componentOf askAt openingAt frameAt frameOf lengthOf sizeOf valuesAt leAt numbered decimal decimalBy lastDigits ifLt ifLe ifEq ifSo
-dumped = (refl, refl)
+unfolding case-l case-abroad case-odd dumpOf placesText placeText stopText placesOf placesFrom placeAfter numberedLine codeWord digitsWord valueText countedWord numberWord roleWord commaText flagText flagsText flagsWord openingWords askedWord askWords nameWord operationWord withOperationWord unlessZero rejectWords unknownWords withNumber valuesWords messageWords toldWord accessWords partsText withDigits numberText textIf operationText readAt eventAt accessAt messageAt timeAt numberIf natureOf countOf componentOf askAt openingAt frameAt frameOf lengthOf sizeOf valuesAt leAt numbered decimal decimalBy lastDigits ifLt ifLe ifEq ifSo
+dumped = (refl, refl, refl)

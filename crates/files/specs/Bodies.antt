@@ -2,14 +2,16 @@
 -- fields (Fields.antt). No field is judged here: 3 is the call's answer, and the writer's (Write.antt).
 -- Assumes nothing.
 use mathlib.Core.List.{List, [], _∷_, _++_}
-use Prim.Native.Nat.{ℕ, _+_}
+use Prim.Native.Nat.{ℕ, _+_, _%_}
 use lib.ListN.{length, getD}
-use Rattle.text.specs.Choose.{ifLe, ifEq}
+use Rattle.text.specs.Choose.{ifLt, ifLe, ifEq}
 use Rattle.rows.specs.declared.Component.{Component}
 use Rattle.rows.specs.declared.Component.the-variants.{Absent, Invoke, Result, Error, Reject, Unknown}
 use Rattle.rows.specs.declared.Event.{Event}
 use Rattle.rows.specs.declared.Event.the-variants.{Opening, Ask, Received, FromAccess, Expiry, Time}
 use Rattle.rows.specs.declared.Message.{Message}
+use Rattle.rows.specs.declared.Nature.{Nature}
+use Rattle.rows.specs.declared.Nature.the-variants.{National, International}
 use Rattle.rows.specs.declared.Number.{Number}
 use Rattle.files.specs.Bytes.{byteAt, leOf}
 use Rattle.files.specs.Fields.{numberFields, openingFields, askFields, messageFields, accessFields, expiryFields, timeFields}
@@ -18,14 +20,30 @@ use Rattle.files.specs.Frames.{lengthWith, frameAt}
 use Rattle.files.specs.declared.Frame.{Frame}
 use Rattle.files.specs.declared.Read.{Read}
 
+-- ---- the count byte of a telephone number, both ways. 02 #103: "its nature, national or international, in the top bit of the count byte
+-- (set for international)"; the count is the low seven bits
+
+unfoldable pub natureOf : ℕ → Nature
+natureOf byte = ifLt byte 128 National International
+
+unfoldable pub countOf : ℕ → ℕ
+countOf byte = byte % 128
+
+abbrev pub countByte : Nature → ℕ → ℕ
+countByte National count = count
+countByte International count = 128 + count
+
 -- ---- from bytes to events
 
--- the k-th value, k from 0, and the telephone number whose count is the k-th
+-- the k-th value, k from 0, and the telephone number whose count byte is the k-th
 abbrev pub valueAt : List ℕ → ℕ → ℕ
 valueAt vs k = getD vs k 0
 
+abbrev pub numberBy : ℕ → ℕ → Number
+numberBy byte value = record { nature = natureOf byte; count = countOf byte; value = value }
+
 abbrev pub numberFrom : List ℕ → ℕ → Number
-numberFrom vs k = record { count = valueAt vs k; value = valueAt vs (k + 1) }
+numberFrom vs k = numberBy (valueAt vs k) (valueAt vs (k + 1))
 
 -- a telephone number; one of which no bytes stand there is absent
 unfoldable pub numberIf : List ℕ → ℕ → ℕ → Number
@@ -123,7 +141,7 @@ itemOf (Unknown code n) = n
 
 -- the values of a telephone number, of a message up to its parts, and of what it carries behind them
 abbrev pub numberValues : Number → List ℕ
-numberValues n = n .count ∷ n .value ∷ []
+numberValues n = countByte (n .nature) (n .count) ∷ n .value ∷ []
 
 abbrev pub frontValues : Message → List ℕ
 frontValues m = m .kind ∷ m .cause ∷ codeOf (m .component) ∷ itemOf (m .component) ∷ m .parts ∷ []

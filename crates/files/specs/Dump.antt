@@ -37,4 +37,4 @@ dumpOf s = numberedLine (ascii "RECORDS ") (length (placesOf s)) ++ placesText s
 
 -- no record's line is longer
 abbrev pub longestPlace : ℕ
-longestPlace = 678
+longestPlace = 680

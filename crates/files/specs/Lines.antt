@@ -77,4 +77,4 @@ recordText ordinal o = lineText ordinal (o .number) (o .call) ++ ifEq (o .number
 
 -- no record's text is longer
 abbrev pub longestRecord : ℕ
-longestRecord = 2557
+longestRecord = 2565

@@ -6,6 +6,8 @@ use Rattle.text.specs.Choose.{ifEq}
 use Rattle.text.specs.Text.{ascii, lastDigits, numbered}
 use Rattle.rows.specs.declared.Component.{Component}
 use Rattle.rows.specs.declared.Component.the-variants.{Absent, Invoke, Result, Error, Reject, Unknown}
+use Rattle.rows.specs.declared.Nature.{Nature}
+use Rattle.rows.specs.declared.Nature.the-variants.{National, International}
 use Rattle.rows.specs.declared.Note.{Note}
 use Rattle.rows.specs.declared.Number.{Number}
 use Rattle.files.specs.Bytes.{part}
@@ -30,9 +32,17 @@ componentText (Unknown code n) = []
 unfoldable pub textIf : ℕ → List ℕ → List ℕ
 textIf present t = ifEq present 1 t []
 
+-- 02 #103: "the listing puts `+` before international digits"
+abbrev pub signText : Nature → List ℕ
+signText National = []
+signText International = ascii "+"
+
 -- "digits (as many as the count)"
+unfoldable pub numberText : Number → List ℕ
+numberText n = signText (n .nature) ++ lastDigits (n .count) (n .value)
+
 unfoldable pub withDigits : List ℕ → Number → List ℕ
-withDigits word n = word ++ lastDigits (n .count) (n .value)
+withDigits word n = word ++ numberText n
 
 -- "its parts in bit order: TRANSFER, ACCEPTED, AS-TRANSFER, PARTIAL"
 unfoldable pub partsText : ℕ → List ℕ

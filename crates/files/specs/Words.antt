@@ -6,7 +6,7 @@ use mathlib.Core.List.{List, [], _++_}
 use mathlib.Core.Path.{_≡_}
 use Prim.Native.Nat.{ℕ, _%_}
 use Rattle.text.specs.Choose.{ifLt, ifEq, ifSo}
-use Rattle.text.specs.Text.{ascii, decimalBy, numbered}
+use Rattle.text.specs.Text.{ascii, decimal, decimalBy, numbered}
 use Rattle.rows.specs.Valid.{inRange}
 use Rattle.rows.specs.declared.Component.{Component}
 use Rattle.rows.specs.declared.Component.the-variants.{Absent, Invoke, Result, Error, Reject, Unknown}
@@ -15,7 +15,7 @@ use Rattle.rows.specs.declared.Event.the-variants.{Opening, Ask, Received, From
 use Rattle.rows.specs.declared.Message.{Message}
 use Rattle.rows.specs.declared.Number.{Number}
 use Rattle.files.specs.Bytes.{part}
-use Rattle.files.specs.Messages.{operationText, textIf, withDigits, partsText}
+use Rattle.files.specs.Messages.{operationText, textIf, signText, withDigits, partsText}
 
 -- a number that has no word
 unfoldable pub codeWord : ℕ → List ℕ
@@ -31,9 +31,9 @@ digitsWord n = ifEq (n .count) 0 (ascii " -") (withDigits (ascii " ") n)
 unfoldable pub valueText : ℕ → List ℕ
 valueText n = decimalBy 20 n
 
--- out of range: count and value
+-- out of range: count and value, `+` before them where it is international
 unfoldable pub countedWord : Number → List ℕ
-countedWord n = codeWord (n .count) ++ ascii ":" ++ valueText (n .value)
+countedWord n = ascii " " ++ signText (n .nature) ++ decimal (n .count) ++ ascii ":" ++ valueText (n .value)
 
 unfoldable pub numberWord : Number → List ℕ
 numberWord n = ifSo (inRange n) (digitsWord n) (countedWord n)

@@ -1,6 +1,7 @@
 -- The writer of events: what it answers, and what the lent buffer then holds. 02 #102: "A field out of range is refused with the lent
 -- buffer unchanged, and so is a record longer than the room in it. Refusals: 3, then 8."
 -- Assumes nothing.
+use mathlib.Core.Bool.{Bool, true, false}
 use mathlib.Core.List.{List, _++_}
 use Prim.Native.Nat.{ℕ}
 use lib.ListN.{length, drop}
@@ -8,6 +9,8 @@ use Rattle.text.specs.Choose.{ifLt, ifSo}
 use Rattle.rows.specs.Valid.{eventOk}
 use Rattle.rows.specs.declared.Event.{Event}
 use Rattle.rows.specs.declared.Event.the-variants.{Received}
+use Rattle.rows.specs.declared.Nature.{Nature}
+use Rattle.rows.specs.declared.Nature.the-variants.{National, International}
 use Rattle.rows.specs.declared.Number.{Number}
 use Rattle.files.specs.Bodies.{componentOf, recordOf}
 use Rattle.files.specs.declared.Written.{Written}
@@ -34,9 +37,13 @@ bytesWritten NoRoom = 0
 
 -- ---- a host in C passes numbers
 
--- a telephone number by its count and its value
-abbrev pub numberWith : ℕ → ℕ → Number
-numberWith count value = record { count = count; value = value }
+-- a telephone number by whether it is international, its count and its value
+abbrev pub natureWith : Bool → Nature
+natureWith false = National
+natureWith true = International
+
+abbrev pub numberWith : Bool → ℕ → ℕ → Number
+numberWith international count value = record { nature = natureWith international; count = count; value = value }
 
 -- a message by its fields, the component by its code and the byte after it
 abbrev pub messageWith : ℕ → ℕ → ℕ → ℕ → ℕ → Number → Number → ℕ → Event

@@ -1,7 +1,7 @@
 // The body of a record, and the event that it is. No field is judged here: the call answers 3.
 ghost use mathlib.Core.Path.{_≡_};
 ghost use Prim.Native.Nat.{_+_, _*_, _<_, _^_};
-ghost use Rattle.files.specs.Bodies.{numberIf, openingAt, askAt, componentOf, messageAt, accessAt, timeAt, eventAt, readAt};
+ghost use Rattle.files.specs.Bodies.{natureOf, countOf, numberIf, openingAt, askAt, componentOf, messageAt, accessAt, timeAt, eventAt, readAt};
 ghost use Rattle.files.specs.Bytes.{leAt};
 use crate::Frame;
 use crate::Read;
@@ -9,19 +9,43 @@ use crate::bytes::byte;
 use crate::bytes::le4;
 use crate::bytes::le8;
 use crate::frames::frame;
+use rows::ABSENT;
 use rows::Component;
 use rows::Event;
 use rows::Message;
+use rows::Nature;
 use rows::Number;
 
-// A number: the count of its digits, and 8 bytes of value.
+// The count byte's two halves. Its top bit is read here alone, and written in write.rt alone.
+fn nature_of(byte: u8) -> Nature
+    ensures { λ r. ⌜ r ≡ natureOf byte ⌝ }
+{
+    if byte < 128 {
+        return Nature::National;
+    }
+    Nature::International
+}
+
+fn count_of(byte: u8) -> u8
+    ensures { λ r. ⌜ r ≡ countOf byte ⌝ }
+{
+    byte % 128
+}
+
+// A number: its count byte, and 8 bytes of value.
 fn number_at(s: &[u8], i: usize) -> Number
     requires { ⌜ i + 8 < 2 ^ 64 ⌝ }
     ensures { λ r. ⌜ r ≡ numberIf (now (s .entry)) i 1 ⌝ }
 {
-    let count = byte(s, i);
+    let counted = byte(s, i);
+    let nature = nature_of(counted);
+    let count = count_of(counted);
     let value = le8(s, i + 1);
-    Number { count, value }
+    Number {
+        nature,
+        count,
+        value,
+    }
 }
 
 fn opening_at(s: &[u8], b: usize) -> Event
@@ -72,7 +96,7 @@ fn number_if(s: &[u8], i: usize, present: u8) -> Number
     if present == 1 {
         return number_at(s, i);
     }
-    Number { count: 0, value: 0 }
+    ABSENT
 }
 
 fn duration_if(s: &[u8], i: usize, present: u8) -> u32

@@ -34,7 +34,7 @@ fn put_stop(out: &mut [u8], at: usize, number: u8) -> usize
 fn put_found(out: &mut [u8], at: usize, found: Read) -> usize
     requires { ⌜ at < 2 ^ 57 ⌝ }
     ensures { λ r. ⌜ Put (now (out .entry)) at (foundText found) (now (out .exit)) r ⌝ }
-    ensures { λ r. ⌜ r ≤ at + 656 ⌝ }
+    ensures { λ r. ⌜ r ≤ at + 658 ⌝ }
 {
     match found {
         Read::End => at,

@@ -27,6 +27,7 @@ pub use listing::rev_listing;
 pub use places::count_records;
 use rows::Event;
 pub use words::says;
+pub use write::rev_same_number;
 pub use write::rev_write_access;
 pub use write::rev_write_expiry;
 pub use write::rev_write_message;

@@ -97,7 +97,7 @@ pub(crate) fn put_numbered_line(out: &mut [u8], at: usize, word: &[u8], n: u32) 
 fn put_action(out: &mut [u8], at: usize, a: Act, m: Note) -> usize
     requires { ⌜ at < 2 ^ 58 ⌝ }
     ensures { λ r. ⌜ Put (now (out .entry)) at (actionText m a) (now (out .exit)) r ⌝ }
-    ensures { λ r. ⌜ r ≤ at + 619 ⌝ }
+    ensures { λ r. ⌜ r ≤ at + 621 ⌝ }
 {
     match a {
         Act::Nothing => at,
@@ -119,7 +119,7 @@ fn put_action(out: &mut [u8], at: usize, a: Act, m: Note) -> usize
 fn put_actions(out: &mut [u8], at: usize, o: Outcome) -> usize
     requires { ⌜ at < 2 ^ 57 ⌝ }
     ensures { λ r. ⌜ Put (now (out .entry)) at (actionsText o) (now (out .exit)) r ⌝ }
-    ensures { λ r. ⌜ r ≤ at + 2476 ⌝ }
+    ensures { λ r. ⌜ r ≤ at + 2484 ⌝ }
 {
     let m = o.note;
     let first = o.first;

@@ -2,9 +2,11 @@
 ghost use Prim.Native.Nat.{_+_, _≤_, _<_, _^_};
 ghost use lib.ListN.{length};
 ghost use Rattle.text.specs.Text.{Put, ascii, numbered};
-ghost use Rattle.files.specs.Messages.{operationText, withOperation, componentText, textIf, withDigits, partsText, valuesText};
+ghost use Rattle.files.specs.Messages.{operationText, withOperation, componentText, textIf, signText, numberText};
+ghost use Rattle.files.specs.Messages.{withDigits, partsText, valuesText};
 ghost use Rattle.files.specs.Messages.{carriedText, sentText, releasedText};
 use rows::Component;
+use rows::Nature;
 use rows::Note;
 use rows::Number;
 
@@ -60,22 +62,45 @@ pub(crate) fn put_if(out: &mut [u8], at: usize, present: u8, word: &[u8]) -> usi
     at
 }
 
-// A word and as many digits as the number's count.
+// Before the digits: what tells an international number from a national one.
+pub(crate) fn put_sign(out: &mut [u8], at: usize, nature: Nature) -> usize
+    requires { ⌜ at < 2 ^ 61 ⌝ }
+    ensures { λ r. ⌜ Put (now (out .entry)) at (signText nature) (now (out .exit)) r ⌝ }
+    ensures { λ r. ⌜ r ≤ at + 1 ⌝ }
+{
+    match nature {
+        Nature::National => at,
+        Nature::International => text::put(out, at, b'+'),
+    }
+}
+
+// Its sign, and as many digits as its count.
+fn put_number(out: &mut [u8], at: usize, n: Number) -> usize
+    requires { ⌜ at < 2 ^ 61 ⌝ }
+    ensures { λ r. ⌜ Put (now (out .entry)) at (numberText n) (now (out .exit)) r ⌝ }
+    ensures { λ r. ⌜ r ≤ at + 256 ⌝ }
+{
+    let nature = n.nature;
+    let count = n.count as usize;
+    let to = put_sign(out, at, nature);
+    text::put_digits(out, to, n.value, count)
+}
+
+// A word and a number.
 pub(crate) fn put_with_digits(out: &mut [u8], at: usize, word: &[u8], n: Number) -> usize
     requires { ⌜ at + length (now word) < 2 ^ 61 ⌝ }
     ensures { λ r. ⌜ Put (now (out .entry)) at (withDigits (now (word .entry)) n) (now (out .exit)) r ⌝ }
-    ensures { λ r. ⌜ r ≤ at + length (now (word .entry)) + 255 ⌝ }
+    ensures { λ r. ⌜ r ≤ at + length (now (word .entry)) + 256 ⌝ }
 {
-    let count = n.count as usize;
     let to = text::put_word(out, at, word);
-    text::put_digits(out, to, n.value, count)
+    put_number(out, to, n)
 }
 
 // A number where its part is present.
 fn put_digits_if(out: &mut [u8], at: usize, present: u8, word: &[u8], n: Number) -> usize
     requires { ⌜ at + length (now word) < 2 ^ 61 ⌝ }
     ensures { λ r. ⌜ Put (now (out .entry)) at (textIf present (withDigits (now (word .entry)) n)) (now (out .exit)) r ⌝ }
-    ensures { λ r. ⌜ r ≤ at + length (now (word .entry)) + 255 ⌝ }
+    ensures { λ r. ⌜ r ≤ at + length (now (word .entry)) + 256 ⌝ }
 {
     if present == 1 {
         return put_with_digits(out, at, word, n);
@@ -110,7 +135,7 @@ pub(crate) fn put_parts(out: &mut [u8], at: usize, parts: u8) -> usize
 fn put_values(out: &mut [u8], at: usize, m: Note) -> usize
     requires { ⌜ at < 2 ^ 60 ⌝ }
     ensures { λ r. ⌜ Put (now (out .entry)) at (valuesText m) (now (out .exit)) r ⌝ }
-    ensures { λ r. ⌜ r ≤ at + 547 ⌝ }
+    ensures { λ r. ⌜ r ≤ at + 549 ⌝ }
 {
     let calling = m.calling;
     let called = m.called;
@@ -124,7 +149,7 @@ fn put_values(out: &mut [u8], at: usize, m: Note) -> usize
 fn put_carried(out: &mut [u8], at: usize, m: Note) -> usize
     requires { ⌜ at < 2 ^ 59 ⌝ }
     ensures { λ r. ⌜ Put (now (out .entry)) at (carriedText m) (now (out .exit)) r ⌝ }
-    ensures { λ r. ⌜ r ≤ at + 603 ⌝ }
+    ensures { λ r. ⌜ r ≤ at + 605 ⌝ }
 {
     let component = m.component;
     let mut to = put_component(out, at, component);
@@ -136,7 +161,7 @@ fn put_carried(out: &mut [u8], at: usize, m: Note) -> usize
 pub(crate) fn put_sent(out: &mut [u8], at: usize, name: &[u8], m: Note) -> usize
     requires { ⌜ at + length (now name) < 2 ^ 59 ⌝ }
     ensures { λ r. ⌜ Put (now (out .entry)) at (sentText (now (name .entry)) m) (now (out .exit)) r ⌝ }
-    ensures { λ r. ⌜ r ≤ at + length (now (name .entry)) + 603 ⌝ }
+    ensures { λ r. ⌜ r ≤ at + length (now (name .entry)) + 605 ⌝ }
 {
     let to = text::put_word(out, at, name);
     put_carried(out, to, m)
@@ -146,7 +171,7 @@ pub(crate) fn put_sent(out: &mut [u8], at: usize, name: &[u8], m: Note) -> usize
 pub(crate) fn put_released(out: &mut [u8], at: usize, m: Note) -> usize
     requires { ⌜ at < 2 ^ 58 ⌝ }
     ensures { λ r. ⌜ Put (now (out .entry)) at (releasedText m) (now (out .exit)) r ⌝ }
-    ensures { λ r. ⌜ r ≤ at + 619 ⌝ }
+    ensures { λ r. ⌜ r ≤ at + 621 ⌝ }
 {
     let to = text::put_numbered(out, at, b"> REL ", m.cause as u32);
     put_carried(out, to, m)

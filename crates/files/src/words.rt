@@ -14,6 +14,7 @@ use crate::messages::put_duration_if;
 use crate::messages::put_if;
 use crate::messages::put_operation;
 use crate::messages::put_parts;
+use crate::messages::put_sign;
 use crate::messages::put_with_digits;
 use rows::Component;
 use rows::Event;
@@ -33,7 +34,7 @@ fn put_code(out: &mut [u8], at: usize, n: u8) -> usize
 fn put_digits_word(out: &mut [u8], at: usize, n: Number) -> usize
     requires { ⌜ at < 2 ^ 60 ⌝ }
     ensures { λ r. ⌜ Put (now (out .entry)) at (digitsWord n) (now (out .exit)) r ⌝ }
-    ensures { λ r. ⌜ r ≤ at + 256 ⌝ }
+    ensures { λ r. ⌜ r ≤ at + 257 ⌝ }
 {
     if n.count == 0 {
         return text::put_word(out, at, b" -");
@@ -58,21 +59,24 @@ fn put_value(out: &mut [u8], at: usize, n: u64) -> usize
     text::put_digits(out, to, n, 18)
 }
 
-// One out of range: its count and its value.
+// One out of range: its sign, its count and its value.
 fn put_counted_word(out: &mut [u8], at: usize, n: Number) -> usize
     requires { ⌜ at < 2 ^ 60 ⌝ }
     ensures { λ r. ⌜ Put (now (out .entry)) at (countedWord n) (now (out .exit)) r ⌝ }
-    ensures { λ r. ⌜ r ≤ at + 40 ⌝ }
+    ensures { λ r. ⌜ r ≤ at + 41 ⌝ }
 {
-    let mut to = put_code(out, at, n.count);
-    to = text::put_word(out, to, b":");
+    let nature = n.nature;
+    let mut to = text::put(out, at, b' ');
+    to = put_sign(out, to, nature);
+    to = text::put_dec(out, to, n.count as u32);
+    to = text::put(out, to, b':');
     put_value(out, to, n.value)
 }
 
 fn put_number(out: &mut [u8], at: usize, n: Number) -> usize
     requires { ⌜ at < 2 ^ 60 ⌝ }
     ensures { λ r. ⌜ Put (now (out .entry)) at (numberWord n) (now (out .exit)) r ⌝ }
-    ensures { λ r. ⌜ r ≤ at + 256 ⌝ }
+    ensures { λ r. ⌜ r ≤ at + 257 ⌝ }
 {
     if rows::in_range(n) {
         return put_digits_word(out, at, n);
@@ -149,7 +153,7 @@ fn put_flags(out: &mut [u8], at: usize, flags: u8) -> usize
 fn put_opening(out: &mut [u8], at: usize, role: u8, flags: u8, own: Number) -> usize
     requires { ⌜ at < 2 ^ 58 ⌝ }
     ensures { λ r. ⌜ Put (now (out .entry)) at (openingWords role flags own) (now (out .exit)) r ⌝ }
-    ensures { λ r. ⌜ r ≤ at + 322 ⌝ }
+    ensures { λ r. ⌜ r ≤ at + 323 ⌝ }
 {
     let mut to = text::put_word(out, at, b" OPENING");
     to = put_role(out, to, role);
@@ -181,7 +185,7 @@ fn put_asked(out: &mut [u8], at: usize, item: u8) -> usize
 fn put_ask(out: &mut [u8], at: usize, item: u8, called: Number) -> usize
     requires { ⌜ at < 2 ^ 58 ⌝ }
     ensures { λ r. ⌜ Put (now (out .entry)) at (askWords item called) (now (out .exit)) r ⌝ }
-    ensures { λ r. ⌜ r ≤ at + 275 ⌝ }
+    ensures { λ r. ⌜ r ≤ at + 276 ⌝ }
 {
     let mut to = text::put_word(out, at, b" REQUEST");
     to = put_asked(out, to, item);
@@ -283,7 +287,7 @@ fn put_component_words(out: &mut [u8], at: usize, component: Component) -> usize
 fn put_with_number(out: &mut [u8], at: usize, word: &[u8], n: Number) -> usize
     requires { ⌜ at + length (now word) < 2 ^ 60 ⌝ }
     ensures { λ r. ⌜ Put (now (out .entry)) at (withNumber (now (word .entry)) n) (now (out .exit)) r ⌝ }
-    ensures { λ r. ⌜ r ≤ at + length (now (word .entry)) + 256 ⌝ }
+    ensures { λ r. ⌜ r ≤ at + length (now (word .entry)) + 257 ⌝ }
 {
     let to = text::put_word(out, at, word);
     put_number(out, to, n)
@@ -293,7 +297,7 @@ fn put_with_number(out: &mut [u8], at: usize, word: &[u8], n: Number) -> usize
 fn put_number_if(out: &mut [u8], at: usize, present: u8, word: &[u8], n: Number) -> usize
     requires { ⌜ at + length (now word) < 2 ^ 60 ⌝ }
     ensures { λ r. ⌜ Put (now (out .entry)) at (textIf present (withNumber (now (word .entry)) n)) (now (out .exit)) r ⌝ }
-    ensures { λ r. ⌜ r ≤ at + length (now (word .entry)) + 256 ⌝ }
+    ensures { λ r. ⌜ r ≤ at + length (now (word .entry)) + 257 ⌝ }
 {
     if present == 1 {
         return put_with_number(out, at, word, n);
@@ -305,7 +309,7 @@ fn put_number_if(out: &mut [u8], at: usize, present: u8, word: &[u8], n: Number)
 fn put_values_words(out: &mut [u8], at: usize, m: Message) -> usize
     requires { ⌜ at < 2 ^ 59 ⌝ }
     ensures { λ r. ⌜ Put (now (out .entry)) at (valuesWords m) (now (out .exit)) r ⌝ }
-    ensures { λ r. ⌜ r ≤ at + 556 ⌝ }
+    ensures { λ r. ⌜ r ≤ at + 558 ⌝ }
 {
     let calling = m.calling;
     let called = m.called;
@@ -319,7 +323,7 @@ fn put_values_words(out: &mut [u8], at: usize, m: Message) -> usize
 fn put_message(out: &mut [u8], at: usize, m: Message) -> usize
     requires { ⌜ at < 2 ^ 58 ⌝ }
     ensures { λ r. ⌜ Put (now (out .entry)) at (messageWords m) (now (out .exit)) r ⌝ }
-    ensures { λ r. ⌜ r ≤ at + 656 ⌝ }
+    ensures { λ r. ⌜ r ≤ at + 658 ⌝ }
 {
     let component = m.component;
     let mut to = put_name(out, at, m.kind);
@@ -366,7 +370,7 @@ fn put_access(out: &mut [u8], at: usize, item: u8, error: u8) -> usize
 pub(crate) fn put_event(out: &mut [u8], at: usize, e: Event) -> usize
     requires { ⌜ at < 2 ^ 57 ⌝ }
     ensures { λ r. ⌜ Put (now (out .entry)) at (eventWords e) (now (out .exit)) r ⌝ }
-    ensures { λ r. ⌜ r ≤ at + 656 ⌝ }
+    ensures { λ r. ⌜ r ≤ at + 658 ⌝ }
 {
     match e {
         Event::Opening(role, flags, own) => put_opening(out, at, role, flags, own),
@@ -413,7 +417,7 @@ fn begins_line(words: &[u8], line: &[u8]) -> bool
 pub fn says(line: &[u8], e: Event) -> bool
     ensures { λ r. ⌜ Says (now (line .entry)) e r ⌝ }
 {
-    let mut words = [0u8; 656];
+    let mut words = [0u8; 658];
     let n = put_event(&mut words, 0, e);
     begins_line(&words[..n], line)
 }

@@ -2,21 +2,23 @@
 // nothing is stored. Each length stands as a number beside the fields that it counts: the table of fields, which is the reader's too, holds
 // it to them.
 ghost use mathlib.Core.Path.{_≡_};
-ghost use Prim.Native.Nat.{_+_, _*_, _≤_, _<_};
+ghost use Prim.Native.Nat.{_+_, _*_, _%_, _≤_, _<_};
 ghost use lib.ListN.{length};
 ghost use Rattle.text.specs.Text.{Put};
+ghost use Rattle.rows.specs.Telephone.{sameNumber};
 ghost use Rattle.rows.specs.declared.Event.the-variants.{Opening, Ask, Received, FromAccess, Expiry, Time};
-ghost use Rattle.files.specs.Bodies.{codeOf, itemOf, numberValues, frontValues, carriedValues, headOf, recordOf};
+ghost use Rattle.files.specs.Bodies.{countByte, codeOf, itemOf, numberValues, frontValues, carriedValues, headOf, recordOf};
 ghost use Rattle.files.specs.Bytes.{leOf, part};
 ghost use Rattle.files.specs.Fields.{numberFields, frontFields, carriedFields, bytesOf};
 ghost use Rattle.files.specs.Frames.{lengthOf};
-ghost use Rattle.files.specs.Write.{writtenOf, leftOf, numberOf, numberWith, messageWith};
+ghost use Rattle.files.specs.Write.{writtenOf, leftOf, numberOf, natureWith, numberWith, messageWith};
 use crate::Written;
 use crate::bodies::component_of;
 use crate::frames::length_of;
 use rows::Component;
 use rows::Event;
 use rows::Message;
+use rows::Nature;
 use rows::Number;
 
 // ---- The bytes of a number, least first, where there is room for them: no test of each, so that a field is stored at once.
@@ -60,13 +62,25 @@ fn put_8(out: &mut [u8], at: usize, v: u64) -> usize
 
 // ---- Fields
 
-// A number: the count of its digits, and 8 bytes of value.
+// The count byte. Of a count in range nothing is cut off.
+fn count_byte(nature: Nature, count: u8) -> u8
+    ensures { λ r. ⌜ r ≡ countByte nature count % 256 ⌝ }
+{
+    match nature {
+        Nature::National => count,
+        Nature::International => std::num::wrapping_add_u8(128, count),
+    }
+}
+
+// A number: its count byte, and 8 bytes of value.
 fn put_number(out: &mut [u8], at: usize, n: Number) -> usize
     requires { ⌜ at + 9 ≤ length (now out) ⌝ }
     ensures { λ r. ⌜ Put (now (out .entry)) at (bytesOf (numberFields 1) (numberValues n)) (now (out .exit)) r ⌝ }
     ensures { λ r. ⌜ r ≡ at + 9 ⌝ }
 {
-    let to = put_1(out, at, n.count);
+    let nature = n.nature;
+    let counted = count_byte(nature, n.count);
+    let to = put_1(out, at, counted);
     put_8(out, to, n.value)
 }
 
@@ -321,29 +335,56 @@ fn number_of(w: Written) -> u32
     }
 }
 
-// Each kind for a host in C: on numbers, a telephone number as its count and its value. What they give is the number; the length stands in
-// the record's first two bytes.
+// What a host in C passes for a telephone number: whether it is international, its count and its value.
+fn nature_with(international: bool) -> Nature
+    ensures { λ r. ⌜ r ≡ natureWith international ⌝ }
+{
+    if international {
+        return Nature::International;
+    }
+    Nature::National
+}
+
+fn number_with(international: bool, count: u8, value: u64) -> Number
+    ensures { λ r. ⌜ r ≡ numberWith international count value ⌝ }
+{
+    let nature = nature_with(international);
+    Number {
+        nature,
+        count,
+        value,
+    }
+}
+
+// Each kind for a host in C. What they give is the number; the length stands in the record's first two bytes.
 #[no_mangle]
 pub extern "C" fn rev_write_opening(
     role: u8,
     flags: u8,
+    international: bool,
     count: u8,
     value: u64,
     out: &mut [u8],
 ) -> u32
-    ensures { λ r. ⌜ (r ≡ numberOf (writtenOf (Opening role flags (numberWith count value)) (now (out .entry))))
-        × (now (out .exit) ≡ leftOf (Opening role flags (numberWith count value)) (now (out .entry))) ⌝ }
+    ensures { λ r. ⌜ (r ≡ numberOf (writtenOf (Opening role flags (numberWith international count value)) (now (out .entry))))
+        × (now (out .exit) ≡ leftOf (Opening role flags (numberWith international count value)) (now (out .entry))) ⌝ }
 {
-    let own = Number { count, value };
+    let own = number_with(international, count, value);
     number_of(write_opening(role, flags, own, out))
 }
 
 #[no_mangle]
-pub extern "C" fn rev_write_request(request: u8, count: u8, value: u64, out: &mut [u8]) -> u32
-    ensures { λ r. ⌜ (r ≡ numberOf (writtenOf (Ask request (numberWith count value)) (now (out .entry))))
-        × (now (out .exit) ≡ leftOf (Ask request (numberWith count value)) (now (out .entry))) ⌝ }
+pub extern "C" fn rev_write_request(
+    request: u8,
+    international: bool,
+    count: u8,
+    value: u64,
+    out: &mut [u8],
+) -> u32
+    ensures { λ r. ⌜ (r ≡ numberOf (writtenOf (Ask request (numberWith international count value)) (now (out .entry))))
+        × (now (out .exit) ≡ leftOf (Ask request (numberWith international count value)) (now (out .entry))) ⌝ }
 {
-    let called = Number { count, value };
+    let called = number_with(international, count, value);
     number_of(write_ask(request, called, out))
 }
 
@@ -354,8 +395,10 @@ pub extern "C" fn rev_write_message(
     component: u8,
     item: u8,
     parts: u8,
+    callinginternational: bool,
     callingcount: u8,
     callingvalue: u64,
+    calledinternational: bool,
     calledcount: u8,
     calledvalue: u64,
     duration: u32,
@@ -363,21 +406,17 @@ pub extern "C" fn rev_write_message(
 ) -> u32
     ensures { λ r. ⌜ (r ≡ numberOf (writtenOf
         (messageWith message cause component item parts
-        (numberWith callingcount callingvalue) (numberWith calledcount calledvalue) duration)
+        (numberWith callinginternational callingcount callingvalue)
+        (numberWith calledinternational calledcount calledvalue) duration)
         (now (out .entry))))
         × (now (out .exit) ≡ leftOf
         (messageWith message cause component item parts
-        (numberWith callingcount callingvalue) (numberWith calledcount calledvalue) duration)
+        (numberWith callinginternational callingcount callingvalue)
+        (numberWith calledinternational calledcount calledvalue) duration)
         (now (out .entry))) ⌝ }
 {
-    let calling = Number {
-        count: callingcount,
-        value: callingvalue,
-    };
-    let called = Number {
-        count: calledcount,
-        value: calledvalue,
-    };
+    let calling = number_with(callinginternational, callingcount, callingvalue);
+    let called = number_with(calledinternational, calledcount, calledvalue);
     let component = component_of(component, item);
     let m = Message {
         kind: message,
@@ -412,4 +451,21 @@ pub extern "C" fn rev_write_time(seconds: u32, out: &mut [u8]) -> u32
         × (now (out .exit) ≡ leftOf (Time seconds) (now (out .entry))) ⌝ }
 {
     number_of(write_time(seconds, out))
+}
+
+// Whether two telephone numbers are the same.
+#[no_mangle]
+pub extern "C" fn rev_same_number(
+    international: bool,
+    count: u8,
+    value: u64,
+    otherinternational: bool,
+    othercount: u8,
+    othervalue: u64,
+) -> bool
+    ensures { λ r. ⌜ r ≡ sameNumber (numberWith international count value) (numberWith otherinternational othercount othervalue) ⌝ }
+{
+    let a = number_with(international, count, value);
+    let b = number_with(otherinternational, othercount, othervalue);
+    rows::same_number(a, b)
 }

@@ -12,32 +12,46 @@ use crate::pieces::seconds;
 use crate::pieces::small;
 use crate::pieces::value;
 use crate::pieces::word;
+use rows::ABSENT;
 use rows::Component;
 use rows::Event;
 use rows::Message;
+use rows::Nature;
 use rows::Number;
 
 // Past the last word: a line has at most 18.
 const NOWHERE: usize = 18;
 
-fn counted(w: &[u8]) -> Number {
+// A record has seven bits for a count: a greater one makes a line unknown.
+fn counted(nature: Nature, w: &[u8]) -> Number {
+    let count = code(piece(w, b':', 0)) % 128;
     Number {
-        count: code(piece(w, b':', 0)),
+        nature,
+        count,
         value: value(piece(w, b':', 1)),
+    }
+}
+
+// The digits of a number, or its count and value.
+fn digits(nature: Nature, w: &[u8]) -> Number {
+    if find(w, 0, b':') < w.len() {
+        return counted(nature, w);
+    }
+    Number {
+        nature,
+        count: small(w.len() as u64),
+        value: value(w),
     }
 }
 
 fn number(w: &[u8]) -> Number {
     if is(w, b"-") {
-        return Number { count: 0, value: 0 };
+        return ABSENT;
     }
-    if find(w, 0, b':') < w.len() {
-        return counted(w);
+    if find(w, 0, b'+') < w.len() {
+        return digits(Nature::International, piece(w, b'+', 1));
     }
-    Number {
-        count: small(w.len() as u64),
-        value: value(w),
-    }
+    digits(Nature::National, w)
 }
 
 fn role(w: &[u8]) -> u8 {
@@ -267,7 +281,7 @@ fn number_after(line: &[u8], from: usize, name: &[u8]) -> Number {
     if k < NOWHERE {
         return number(word(line, k + 1));
     }
-    Number { count: 0, value: 0 }
+    ABSENT
 }
 
 fn duration(line: &[u8], from: usize) -> u32 {
@@ -322,7 +336,7 @@ pub(crate) fn event_of(line: &[u8]) -> Parsed
     ensures { λ r. ⌜ Right (now (line .entry)) r ⌝ }
 {
     // the words of an event have fewer bytes, and a longer line need not be gone through
-    if 656 <= line.len() {
+    if 658 <= line.len() {
         return Parsed::Unknown;
     }
     let e = guess(line);

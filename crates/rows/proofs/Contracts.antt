@@ -16,9 +16,11 @@ use prog.Routine.{Routine}
 use prog.Wp.{Heap}
 use Rattle.rows.specs.Perform.{refusedOf}
 use Rattle.rows.specs.Step.{stepOf, unopenedCall}
+use Rattle.rows.specs.Telephone.{sameNumber}
 use Rattle.rows.proofs.Call.refused as refused
 use Rattle.rows.proofs.Call.step as step
 use Rattle.rows.proofs.Call.unopened as unopened
+use Rattle.rows.proofs.telephone.same_number as same-number
 
 module _ {M : Type 1} (𝓤 : URA M) (H : Heap 𝓤) (A : Atoms 𝓤) (mem : Memory → SProp 𝓤) (run : Routine → Fun 𝓤) where
   -- The contract that asks for nothing and says P of the result.
@@ -44,3 +46,8 @@ module _ {M : Type 1} (𝓤 : URA M) (H : Heap 𝓤) (A : Atoms 𝓤) (mem : Mem
   pub unopened-says : (κs : Lfts 0) (a : Args unopened.signature κs) →
       unopened.spec 𝓤 H A mem run κs a ≡ Promises unopened.ended κs a (λ out. out ≡ unopenedCall)
   unopened-says κs a = refl
+
+  -- a .0 and a .1 .0 are the numbers
+  pub same-number-says : (κs : Lfts 0) (a : Args same-number.signature κs) →
+      same-number.spec 𝓤 H A mem run κs a ≡ Promises same-number.ended κs a (λ out. out ≡ sameNumber (a .0) (a .1 .0))
+  same-number-says κs a = refl

@@ -26,6 +26,7 @@ use Rattle.rows.specs.Read.{modeBy, extentBy, serviceBy, correctBy}
 use Rattle.rows.specs.Rows
 use Rattle.rows.specs.Rows.{planOf}
 use Rattle.rows.specs.Step.{unopenedCall, takesOf, ifInRange, stepOf}
+use Rattle.rows.specs.Telephone.{absent}
 use Rattle.rows.specs.Valid.{payerThere, messageOk, eventOk}
 use Rattle.rows.specs.declared.Call.{Call}
 use Rattle.rows.specs.declared.Component.{Component}
@@ -45,6 +46,7 @@ use Rattle.rows.specs.declared.Kind.the-variants.{Iam, Answer, Rel, Fac}
 use Rattle.rows.specs.declared.Message.{Message}
 use Rattle.rows.specs.declared.Mode.{Mode}
 use Rattle.rows.specs.declared.Mode.the-variants.{NoTransfer, Transfer}
+use Rattle.rows.specs.declared.Nature.the-variants.{National}
 use Rattle.rows.specs.declared.Number.{Number}
 use Rattle.rows.specs.declared.Outcome.{Outcome}
 use Rattle.rows.specs.declared.Phase.{Phase}
@@ -541,17 +543,14 @@ opens-there-in-range f own e = ap (λ (b : Bool). ifInRange b unopenedCall (Open
 -- ---- Worked histories: an IAM, an answer, 40 s; a request; a result with transfer and Duration 35; 20 s
 
 abbrev room : Number
-room = record { count = 7; value = 5550123 }
-
-abbrev none : Number
-none = record { count = 0; value = 0 }
+room = record { nature = National; count = 7; value = 5550123 }
 
 abbrev requested : ℕ → List Step
 requested q =
     history (openingThere 9 room .call)
-    (Received (record { kind = 1; cause = 0; component = Absent 0; parts = 0; calling = none; called = none; duration = 0 })
-    ∷ FromAccess 5 0 ∷ Time 40 ∷ Ask q none
-    ∷ Received (record { kind = 5; cause = 0; component = Result 3; parts = 86; calling = room; called = none; duration = 35 })
+    (Received (record { kind = 1; cause = 0; component = Absent 0; parts = 0; calling = absent; called = absent; duration = 0 })
+    ∷ FromAccess 5 0 ∷ Time 40 ∷ Ask q absent
+    ∷ Received (record { kind = 5; cause = 0; component = Result 3; parts = 86; calling = room; called = absent; duration = 35 })
     ∷ Time 20 ∷ [])
 
 -- case C: the Duration and what came after it; case B: all the answered seconds

@@ -1,11 +1,12 @@
--- DIGITS DECIDE NOTHING: other telephone numbers, in range, change no number given back, no action, no state and no meter.
+-- DIGITS DECIDE NOTHING: other telephone numbers, in range, national or international, change no number given back, no action, no state
+-- and no meter.
 -- Assumes nothing.
 use mathlib.Core.Path.{_≡_, refl, sym, _∙_, ap, subst}
 use mathlib.Core.Bool.{Bool, true, false, _&&_, _||_, not}
 use mathlib.Core.List.{List, [], _∷_}
 use Prim.Native.Nat.{ℕ, _≤_}
 use native.Mathlib.Omega.{arith}
-use lib.Dec.{eqb, leb}
+use lib.Dec.{eqb, ltb, leb}
 use borrow.Author.Tests.{leb-true, ne-eqb}
 use Rattle.meters.specs.Meters.{changeOf, withinOf}
 use Rattle.meters.specs.declared.Metered.{Metered}
@@ -16,8 +17,9 @@ use Rattle.rows.specs.Perform.{refusedOf, sideOf, orHeld, settledOf, per
 use Rattle.rows.specs.Promises.{OtherDigits, the-same, another, sent, Redialled, opening, request, message, access, expiry, time}
 use Rattle.rows.specs.Promises.{AllRedialled, no-more, and-then, holding, Renumbered, renumbered, SameAnswer, numbers}
 use Rattle.rows.specs.Read.{bit, errorOf, kindOf, readOf}
+use Rattle.rows.specs.Telephone.{national}
 use Rattle.rows.specs.Step.{takesOf, ifInRange, ifCall, stepOf}
-use Rattle.rows.specs.Valid.{inRange, numberThere, numberAbsent, numberIf, componentOk, partsOk, eventOk, placedOf, meteredOf}
+use Rattle.rows.specs.Valid.{tenTo, inRange, numberThere, numberAbsent, numberIf, componentOk, partsOk, eventOk, placedOf, meteredOf}
 use Rattle.rows.specs.Valid.{payingOf, numbersHeld, validOf}
 use Rattle.rows.specs.declared.Call.{Call}
 use Rattle.rows.specs.declared.Component.{Component}
@@ -27,6 +29,7 @@ use Rattle.rows.specs.declared.Event.the-variants.{Opening, Ask, Receive
 use Rattle.rows.specs.declared.Flags.{Flags}
 use Rattle.rows.specs.declared.Kind.{Kind}
 use Rattle.rows.specs.declared.Kind.the-variants.{Opens, Asks, Tells, Expires, Passes}
+use Rattle.rows.specs.declared.Nature.{Nature}
 use Rattle.rows.specs.declared.Number.{Number}
 use Rattle.rows.specs.declared.Outcome.{Outcome}
 use Rattle.rows.specs.declared.Plan.{Plan}
@@ -36,7 +39,7 @@ use Rattle.rows.specs.declared.Register.the-variants.{AsHeld, FromOpenin
 use Rattle.rows.specs.declared.Role.{Role}
 use Rattle.rows.specs.declared.Stand.{Stand}
 use Rattle.rows.proofs.Answers.{planFor}
-use Rattle.rows.proofs.Truth.{left, right}
+use Rattle.rows.proofs.Truth.{both, left, or-true, right}
 
 -- ---- What a number is asked: whether it is in range, there, absent
 
@@ -54,7 +57,7 @@ one-digit n p = right (inRange n) _ p
 
 not-absent : (n : Number) → numberThere n ≡ true → numberAbsent n ≡ false
 not-absent n p =
-    ap (λ (b : Bool). b && eqb (n .value) 0) (ne-eqb (n .count) 0 (λ z. let h : 1 ≤ n .count = leb-true 1 (n .count) (one-digit n p) in omega arith))
+    ap (λ (b : Bool). b && (eqb (n .value) 0 && national (n .nature))) (ne-eqb (n .count) 0 (λ z. let h : 1 ≤ n .count = leb-true 1 (n .count) (one-digit n p) in omega arith))
 
 absence : {n m : Number} → OtherDigits n m → numberAbsent n ≡ numberAbsent m
 absence the-same = refl
@@ -63,6 +66,13 @@ absence (another {n} {m} p q) = not-absent n p ∙ sym (not-absent m q)
 asked : (b : Bool) {n m : Number} → OtherDigits n m → numberIf b n ≡ numberIf b m
 asked true d = ap (λ (x : Bool). x || false) (there d)
 asked false d = absence d
+
+-- a number that is there, is there with either nature
+pub either-nature : (x y : Nature) (count value : ℕ) → numberThere (record { nature = x; count = count; value = value }) ≡ true →
+    OtherDigits (record { nature = x; count = count; value = value }) (record { nature = y; count = count; value = value })
+either-nature x y count value p =
+    let c = one-digit (record { nature = x; count = count; value = value }) p in
+    another p (both (both (left (ltb value (tenTo count)) _ (left _ _ p)) (or-true (national y) (leb 1 count) c)) c)
 
 -- a number that is held, or that an event brings in its place
 held : {n m u v : Number} → OtherDigits n m → OtherDigits u v → OtherDigits (orHeld (leb 1 (n .count)) n u) (orHeld (leb 1 (m .count)) m v)

@@ -6,6 +6,7 @@ pub mod Destination
 pub mod Digits
 pub mod Found
 pub mod Opened
+pub mod Passed
 pub mod Payers
 pub mod Phases
 pub mod Placed
@@ -14,6 +15,7 @@ pub mod Refusals
 pub mod Requests
 pub mod Reversal
 pub mod Running
+pub mod SameNumbers
 pub mod Stays
 pub mod Theorems
 pub mod Truth

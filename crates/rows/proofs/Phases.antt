@@ -42,7 +42,7 @@ use Rattle.rows.proofs.Truth.{both, differ, left, right}
 
 -- ---- Kinds of events, and the tests of the promises
 
-abbrev isOpens : Kind → Bool
+abbrev pub isOpens : Kind → Bool
 isOpens Opens = true
 isOpens Asks = false
 isOpens Iam = false
@@ -94,7 +94,7 @@ anm-or-con false true r h = refl
 anm-or-con false false true h = cc
 anm-or-con false false false h = cc
 
-opens : (e : Event) → isOpens (readOf e .kind) ≡ isOpening e
+pub opens : (e : Event) → isOpens (readOf e .kind) ≡ isOpening e
 opens (Opening r f n) = refl
 opens (Ask q n) = refl
 opens (Received m) = no-message (eqb (m .kind) 1) (eqb (m .kind) 2 || eqb (m .kind) 3) (eqb (m .kind) 4)

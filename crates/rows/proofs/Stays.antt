@@ -22,6 +22,7 @@ use Rattle.rows.specs.History.{run, history}
 use Rattle.rows.specs.Perform.{standOf, orHeld, roleBy, sideOf}
 use Rattle.rows.specs.Promises.{noneIs}
 use Rattle.rows.specs.Read.{bit, readOf}
+use Rattle.rows.specs.Telephone.{national}
 use Rattle.rows.specs.Step.{unopenedCall, stepOf}
 use Rattle.rows.specs.Valid.{placedOf, inRange, unmetered, payerNobody, payerThere, noCaller, meteredOf, payingThere, payingOf}
 use Rattle.rows.specs.Valid.{numbersHeld, validOf, numberIf, componentOk, partsOk, eventOk}
@@ -42,20 +43,17 @@ use Rattle.rows.specs.declared.Side.{Side}
 use Rattle.rows.specs.declared.Stand.{Stand}
 use Rattle.rows.proofs.Found.{implies, so, Test, holds, stepped}
 use Rattle.rows.proofs.Answers.{planFor}
-use Rattle.rows.proofs.Truth.{both, differ, left, right}
+use Rattle.rows.proofs.Truth.{both, differ, left, or-none, right}
 
 -- ---- Numbers: those that an event in range carries are in range
-
-or-none : (a : Bool) → (a || false) ≡ true → a ≡ true
-or-none true h = refl
-or-none false h = h
 
 number : (b : Bool) (n : Number) → numberIf b n ≡ true → inRange n ≡ true
 number true n h = left (inRange n) _ (or-none _ h)
 number false n h =
     let p : n .count ≡ 0 = eqb-true _ _ (left (eqb (n .count) 0) _ h) in
-    let q : n .value ≡ 0 = eqb-true _ _ (right (eqb (n .count) 0) _ h) in
-    rw (p, q)
+    let q : n .value ≡ 0 = eqb-true _ _ (left (eqb (n .value) 0) _ (right (eqb (n .count) 0) _ h)) in
+    let w : national (n .nature) ≡ true = right (eqb (n .value) 0) _ (right (eqb (n .count) 0) _ h) in
+    rw (p, q, w)
 
 pub record Carries (r : Reading) : Type 0 where
   pub own : inRange (r .own) ≡ true

@@ -7,6 +7,7 @@
 use mathlib.Core.Path.{_≡_, refl}
 use mathlib.Core.Bool.{Bool, true, false, _&&_, not}
 use mathlib.Core.List.{List, _++_}
+use mathlib.Core.Logic.{_↔_}
 use Prim.Native.Nat.{ℕ, _+_, _≤_}
 use lib.Dec.{eqb}
 use Rattle.meters.specs.Meters.{totalOf}
@@ -18,13 +19,16 @@ use Rattle.rows.specs.Promises.{NothingDone, noneIs, unpaid, Answering, 
 use Rattle.rows.specs.Promises.{isFacility, tellsRunning, asksReversal, isInvoke, errorIs, toldRunning, sentRunning}
 use Rattle.rows.specs.Promises.{requestHasRow, invokeHasRow}
 use Rattle.rows.specs.Promises.{openingThere, secondsThere, noDuration}
-use Rattle.rows.specs.Promises.{reversals, Extends, Redialled, AllRedialled, Renumbered, SameAnswer, numbers, takesEffect, InEffect}
+use Rattle.rows.specs.Promises.{reversals, Extends, OtherDigits, Redialled, AllRedialled, Renumbered, SameAnswer, numbers}
+use Rattle.rows.specs.Promises.{takesEffect, InEffect, PassedOn, Keeps}
 use Rattle.rows.specs.Step.{unopenedCall, stepOf}
-use Rattle.rows.specs.Valid.{validOf, eventOk}
+use Rattle.rows.specs.Telephone.{absent, sameNumber}
+use Rattle.rows.specs.Valid.{inRange, numberThere, validOf, eventOk}
 use Rattle.rows.specs.declared.Call.{Call}
 use Rattle.rows.specs.declared.Event.{Event}
 use Rattle.rows.specs.declared.Event.the-variants.{Opening, Ask, Received, FromAccess, Time}
 use Rattle.rows.specs.declared.Message.{Message}
+use Rattle.rows.specs.declared.Nature.{Nature}
 use Rattle.rows.specs.declared.Number.{Number}
 use Rattle.rows.specs.declared.Phase.the-variants.{Answered, Cleared}
 use Rattle.rows.specs.declared.RevState.the-variants.{Active}
@@ -34,6 +38,7 @@ use Rattle.rows.proofs.Destination
 use Rattle.rows.proofs.Digits
 use Rattle.rows.proofs.Opened
 use Rattle.rows.proofs.Opened.{Told, early, oneOrThree}
+use Rattle.rows.proofs.Passed
 use Rattle.rows.proofs.Payers
 use Rattle.rows.proofs.Phases
 use Rattle.rows.proofs.Progress
@@ -41,6 +46,7 @@ use Rattle.rows.proofs.Refusals
 use Rattle.rows.proofs.Requests
 use Rattle.rows.proofs.Reversal
 use Rattle.rows.proofs.Running
+use Rattle.rows.proofs.SameNumbers
 use Rattle.rows.proofs.Stays
 use Rattle.rows.proofs.Whole
 use Rattle.rows.proofs.Whole.{Shows}
@@ -243,10 +249,10 @@ pub charged-by-result : (c : Call) (m : Message) → c .side .role ≡ Destinati
     ≡ chargedBy (c .side .flags .transfer && (bitAt 2 (m .parts) && bitAt 4 (m .parts))) Answered (c .meters .payer)
 charged-by-result = Clearing.charged-by-result
 
--- ---- Digits decide nothing
+-- ---- Digits decide nothing, and neither does the nature
 
--- Other telephone numbers, in range, in the call and in the event: the same number given back, the same actions but for digits, and the
--- same call, its state and its meters, but for digits ..
+-- Other telephone numbers, in range, in the call and in the event: the same number given back, the same actions but for those numbers, and
+-- the same call, its state and its meters, but for those numbers ..
 pub digits-decide-nothing : {c d : Call} {e e′ : Event} → Renumbered c d → Redialled e e′ → SameAnswer (stepOf c e) (stepOf d e′)
 digits-decide-nothing y z = Digits.step-alike y z
 
@@ -258,3 +264,29 @@ digits-in-a-history y z = Digits.run-alike y z
 pub digits-give-no-number : {c d : Call} {es es′ : List Event} → Renumbered c d → AllRedialled es es′ →
     numbers (history c es) ≡ numbers (history d es′)
 digits-give-no-number y z = Digits.numbers-alike y z
+
+-- A number with the other nature, the same digits, is such another: it is in range exactly where the first is.
+pub nature-decides-nothing : (x y : Nature) (count value : ℕ) → numberThere (record { nature = x; count = count; value = value }) ≡ true →
+    OtherDigits (record { nature = x; count = count; value = value }) (record { nature = y; count = count; value = value })
+nature-decides-nothing = Digits.either-nature
+
+-- ---- Telephone numbers (02 #103)
+
+-- A number is passed on whole, with its nature: what is sent is the own number, and what is held was held or was brought by the event.
+pub numbers-passed-on : (c : Call) (e : Event) → PassedOn c e (stepOf c e)
+numbers-passed-on = Passed.passed-on
+
+-- Without an opening the own number stays, and no number that is held is forgotten: another takes its place only if the event brings it.
+pub numbers-kept : (c : Call) (e : Event) → isOpening e ≡ false → Keeps c e (stepOf c e)
+numbers-kept = Passed.keeps
+
+-- `same_number` says that two numbers are the same exactly with equal nature, count and value: that is, exactly where they are equal.
+pub same-number-exactly : (a b : Number) → (sameNumber a b ≡ true) ↔ ((a .nature ≡ b .nature) × (a .count ≡ b .count) × (a .value ≡ b .value))
+same-number-exactly = SameNumbers.same-exactly
+
+pub same-number-equal : (a b : Number) → (sameNumber a b ≡ true) ↔ (a ≡ b)
+same-number-equal = SameNumbers.same-is-equal
+
+-- A number in range without digits is no number at all: none says that it is international.
+pub digitless-is-absent : (n : Number) → inRange n ≡ true → n .count ≡ 0 → n ≡ absent
+digitless-is-absent = SameNumbers.digitless-is-absent

@@ -24,6 +24,14 @@ pub either : {A : Type 0} (a b : Bool) → (a || b) ≡ true → (a ≡ true →
 either true b h f g = f refl
 either false b h f g = g h
 
+pub or-true : (a b : Bool) → b ≡ true → (a || b) ≡ true
+or-true true b h = refl
+or-true false b h = h
+
+pub or-none : (a : Bool) → (a || false) ≡ true → a ≡ true
+or-none true h = refl
+or-none false h = h
+
 -- neither of two
 pub neither-left : (a b : Bool) → (a || b) ≡ false → a ≡ false
 neither-left true b h = h

@@ -6,11 +6,13 @@ use mathlib.Core.Path.{_≡_, refl}
 use Rattle.meters.specs.declared.Payer.{Payer}
 use Rattle.meters.specs.declared.Payer.the-variants.{Caller, Called, Far}
 use Rattle.rows.specs.Bill.{Paid, bill, Step}
+use Rattle.rows.specs.Telephone.{absent}
 use Rattle.rows.specs.History.{history, opening}
 use Rattle.rows.specs.declared.Component.{Component}
 use Rattle.rows.specs.declared.Component.the-variants.{Absent, Invoke, Result}
 use Rattle.rows.specs.declared.Event.{Event}
 use Rattle.rows.specs.declared.Event.the-variants.{Ask, Received, FromAccess, Expiry, Time}
+use Rattle.rows.specs.declared.Nature.the-variants.{International}
 use Rattle.rows.specs.declared.Number.{Number}
 use Rattle.rows.specs.declared.Phase.{Phase}
 use Rattle.rows.specs.declared.Phase.the-variants.{Setup, Answered}
@@ -18,18 +20,15 @@ use Rattle.rows.specs.declared.RevState.{RevState}
 use Rattle.rows.specs.declared.RevState.the-variants.{Idle, WaitAnswer, Active}
 
 abbrev room : Number
-room = record { count = 7; value = 5550123 }
-
-abbrev none : Number
-none = record { count = 0; value = 0 }
+room = record { nature = International; count = 7; value = 5550123 }
 
 -- a message: IAM 1, ANM 2, CON 3, REL 4, FAC 5; its component; its parts; the called number
 abbrev message : ℕ → Component → ℕ → Number → Event
 message k x p called =
-    Received (record { kind = k; cause = 0; component = x; parts = p; calling = none; called = called; duration = 0 })
+    Received (record { kind = k; cause = 0; component = x; parts = p; calling = absent; called = called; duration = 0 })
 
 abbrev answer : Event
-answer = message 2 (Absent 0) 0 none
+answer = message 2 (Absent 0) 0 absent
 
 abbrev paid : ℕ → Payer → Paid
 paid n p = record { seconds = n; by = p }
@@ -44,23 +43,23 @@ basic : billOf 8 (Ask 0 room ∷ Time 5 ∷ answer ∷ Time 40 ∷ Time 86401 �
 basic = refl
 
 -- A: L
-case-l : billOf 8 (Ask 1 room ∷ Time 8 ∷ message 2 (Result 1) 0 none ∷ Time 60 ∷ Ask 2 none ∷ FromAccess 4 0 ∷ [])
+case-l : billOf 8 (Ask 1 room ∷ Time 8 ∷ message 2 (Result 1) 0 absent ∷ Time 60 ∷ Ask 2 absent ∷ FromAccess 4 0 ∷ [])
     ≡ paid 60 Called ∷ []
 case-l = refl
 
 -- A with transfer; claimed where none was asked; parts 2 and 4 are needed
-a-transfer : billOf 9 (Ask 1 room ∷ message 3 (Result 1) 6 none ∷ Time 60 ∷ []) ≡ paid 60 Far ∷ []
+a-transfer : billOf 9 (Ask 1 room ∷ message 3 (Result 1) 6 absent ∷ Time 60 ∷ []) ≡ paid 60 Far ∷ []
 a-transfer = refl
 
-a-claimed : billOf 8 (Ask 1 room ∷ message 3 (Result 1) 6 none ∷ Time 60 ∷ []) ≡ paid 60 Called ∷ []
+a-claimed : billOf 8 (Ask 1 room ∷ message 3 (Result 1) 6 absent ∷ Time 60 ∷ []) ≡ paid 60 Called ∷ []
 a-claimed = refl
 
-a-not-agreed : billOf 9 (Ask 1 room ∷ message 3 (Result 1) 2 none ∷ Time 60 ∷ []) ≡ paid 60 Called ∷ []
+a-not-agreed : billOf 9 (Ask 1 room ∷ message 3 (Result 1) 2 absent ∷ Time 60 ∷ []) ≡ paid 60 Called ∷ []
 a-not-agreed = refl
 
 -- B asked for by the caller: rejected first, then accepted
 b-by-caller : billOf 9
-    (Ask 0 room ∷ answer ∷ Time 40 ∷ Ask 2 none ∷ Time 3 ∷ Expiry ∷ Time 2 ∷ Ask 2 none ∷ message 5 (Result 2) 6 none ∷ Time 20 ∷ [])
+    (Ask 0 room ∷ answer ∷ Time 40 ∷ Ask 2 absent ∷ Time 3 ∷ Expiry ∷ Time 2 ∷ Ask 2 absent ∷ message 5 (Result 2) 6 absent ∷ Time 20 ∷ [])
     ≡ paid 40 Caller ∷ paid 3 Caller ∷ paid 2 Caller ∷ paid 20 Far ∷ []
 b-by-caller = refl
 
@@ -71,19 +70,19 @@ rest-of-call = refl
 entire-call : billOf 8 (Ask 0 room ∷ answer ∷ Time 40 ∷ message 5 (Invoke 3) 32 room ∷ Time 20 ∷ []) ≡ paid 40 Called ∷ paid 20 Called ∷ []
 entire-call = refl
 
-entire-call-transferred : billOf 9 (Ask 0 room ∷ answer ∷ Time 40 ∷ message 5 (Invoke 3) 1 none ∷ Time 20 ∷ [])
+entire-call-transferred : billOf 9 (Ask 0 room ∷ answer ∷ Time 40 ∷ message 5 (Invoke 3) 1 absent ∷ Time 20 ∷ [])
     ≡ paid 40 Far ∷ paid 20 Far ∷ []
 entire-call-transferred = refl
 
 -- D: asked for before the answer, with transfer, without
-d-transfer : billOf 9 (Ask 0 room ∷ message 5 (Invoke 3) 1 none ∷ Time 4 ∷ answer ∷ Time 20 ∷ []) ≡ paid 20 Far ∷ []
+d-transfer : billOf 9 (Ask 0 room ∷ message 5 (Invoke 3) 1 absent ∷ Time 4 ∷ answer ∷ Time 20 ∷ []) ≡ paid 20 Far ∷ []
 d-transfer = refl
 
 d-plain : billOf 9 (Ask 0 room ∷ message 5 (Invoke 3) 32 room ∷ Time 4 ∷ answer ∷ Time 20 ∷ []) ≡ paid 20 Called ∷ []
 d-plain = refl
 
 -- interaction not allowed: no reversal
-not-allowed : billOf 1 (Ask 0 room ∷ message 5 (Invoke 3) 1 none ∷ answer ∷ Time 20 ∷ message 5 (Invoke 3) 1 none ∷ Time 10 ∷ [])
+not-allowed : billOf 1 (Ask 0 room ∷ message 5 (Invoke 3) 1 absent ∷ answer ∷ Time 20 ∷ message 5 (Invoke 3) 1 absent ∷ Time 10 ∷ [])
     ≡ paid 20 Caller ∷ paid 10 Caller ∷ []
 not-allowed = refl
 

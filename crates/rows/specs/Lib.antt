@@ -8,5 +8,6 @@ pub mod Promises
 pub mod Read
 pub mod Rows
 pub mod Step
+pub mod Telephone
 pub mod Valid
 pub mod Tried

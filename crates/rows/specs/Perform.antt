@@ -4,7 +4,8 @@ use Prim.Native.Nat.{ℕ}
 use mathlib.Core.Bool.{Bool, true, false}
 use lib.Dec.{eqb, leb}
 use Rattle.rows.specs.Numbers.{applied, tooMuch, nobodyPays, noPart, callingPart, calledPart, durationPart}
-use Rattle.rows.specs.Read.{bit, absent, flagsOf}
+use Rattle.rows.specs.Read.{bit, flagsOf}
+use Rattle.rows.specs.Telephone.{absent}
 use Rattle.meters.specs.Meters.{changeOf}
 use Rattle.meters.specs.declared.Metered.{Metered}
 use Rattle.meters.specs.declared.Metered.the-variants.{Done, NoPayer, TooMuch}

@@ -4,6 +4,7 @@
 -- Assumes nothing.
 use Prim.Native.Nat.{ℕ, _+_}
 use mathlib.Core.Bool.{Bool, true, false, _&&_, _||_, not}
+use mathlib.Core.Logic.{_⊎_}
 use mathlib.Core.List.{List, [], _∷_, _++_}
 use mathlib.Core.Path.{_≡_}
 use lib.Dec.{eqb, leb}
@@ -14,6 +15,7 @@ use Rattle.rows.specs.Bill.{same, bitAt, lowestBit, resultTo, invokeOf, 
 use Rattle.rows.specs.Bill.{accepted}
 use Rattle.rows.specs.Bill.{isAnswered, isRev, answered}
 use Rattle.rows.specs.Step.{unopenedCall, stepOf}
+use Rattle.rows.specs.Telephone.{absent}
 use Rattle.rows.specs.Valid.{numberThere}
 use Rattle.rows.specs.declared.Act.{Act}
 use Rattle.rows.specs.declared.Call.{Call}
@@ -230,9 +232,59 @@ reversals (reversed k t ∷ ms) = 1 + reversals ms
 pub data Extends (bill : List Paid) : List Paid → Type 0 where
   with-more : (more : List Paid) → Extends bill (bill ++ more)
 
+-- ---- Telephone numbers passed on: proofs/Passed.antt
+
+-- x is one of these, whole: nature, count and value
+pub data OneOf (x : Number) : List Number → Type 0 where
+  this : {ns : List Number} → OneOf x (x ∷ ns)
+  later : {n : Number} {ns : List Number} → OneOf x ns → OneOf x (n ∷ ns)
+
+-- the own number, the calling and the called number that an event brings
+abbrev pub ownIn : Event → Number
+ownIn (Opening r f n) = n
+ownIn (Ask q n) = absent
+ownIn (Received m) = absent
+ownIn (FromAccess a n) = absent
+ownIn Expiry = absent
+ownIn (Time s) = absent
+
+abbrev pub callingIn : Event → Number
+callingIn (Opening r f n) = absent
+callingIn (Ask q n) = absent
+callingIn (Received m) = m .calling
+callingIn (FromAccess a n) = absent
+callingIn Expiry = absent
+callingIn (Time s) = absent
+
+abbrev pub calledIn : Event → Number
+calledIn (Opening r f n) = absent
+calledIn (Ask q n) = n
+calledIn (Received m) = m .called
+calledIn (FromAccess a n) = absent
+calledIn Expiry = absent
+calledIn (Time s) = absent
+
+-- of an answer: what is sent is the own number; what is held was held, or the event brought it, or is none
+pub record PassedOn (c : Call) (e : Event) (o : Outcome) : Type 0 where
+  pub calling-sent : OneOf (o .note .calling) (absent ∷ c .side .own ∷ [])
+  pub called-sent : OneOf (o .note .called) (absent ∷ c .side .own ∷ [])
+  pub own-held : OneOf (o .call .side .own) (c .side .own ∷ ownIn e ∷ [])
+  pub calling-held : OneOf (o .call .side .calling) (c .side .calling ∷ callingIn e ∷ absent ∷ [])
+  pub called-held : OneOf (o .call .side .called) (c .side .called ∷ calledIn e ∷ absent ∷ [])
+
+-- as it was held, or as the event brought it, with a digit at least
+abbrev pub HeldOr : Number → Number → Number → Type 0
+HeldOr now held brought = (now ≡ held) ⊎ ((now ≡ brought) × (leb 1 (brought .count) ≡ true))
+
+-- of an answer to any event but an opening: the own number stays, and no number that is held is forgotten
+pub record Keeps (c : Call) (e : Event) (o : Outcome) : Type 0 where
+  pub own : o .call .side .own ≡ c .side .own
+  pub calling : HeldOr (o .call .side .calling) (c .side .calling) (callingIn e)
+  pub called : HeldOr (o .call .side .called) (c .side .called) (calledIn e)
+
 -- ---- Other telephone numbers: proofs/Digits.antt
 
--- the same number, or two that are both there and in range
+-- the same number, or two that are both there and in range, each of either nature
 pub data OtherDigits : Number → Number → Type 0 where
   the-same : {n : Number} → OtherDigits n n
   another : {n m : Number} → numberThere n ≡ true → numberThere m ≡ true → OtherDigits n m
@@ -240,7 +292,7 @@ pub data OtherDigits : Number → Number → Type 0 where
 abbrev pub sent : ℕ → ℕ → Component → ℕ → Number → Number → ℕ → Message
 sent k u x p calling called s = record { kind = k; cause = u; component = x; parts = p; calling = calling; called = called; duration = s }
 
--- the same event but for the digits of its numbers
+-- the same event but for its numbers, their digits and their nature
 pub data Redialled : Event → Event → Type 0 where
   opening : {r f : ℕ} {n m : Number} → OtherDigits n m → Redialled (Opening r f n) (Opening r f m)
   request : {q : ℕ} {n m : Number} → OtherDigits n m → Redialled (Ask q n) (Ask q m)
@@ -259,12 +311,12 @@ abbrev pub holding : Role → Flags → Stand → Meters → Number → Number �
 holding role flags stand meters own calling called =
     record { side = record { role = role; flags = flags; own = own; calling = calling; called = called }; stand = stand; meters = meters }
 
--- the same call but for the digits of the numbers that it holds
+-- the same call but for the numbers that it holds
 pub data Renumbered : Call → Call → Type 0 where
   renumbered : {r : Role} {f : Flags} {at : Stand} {m : Meters} {u u′ v v′ w w′ : Number} →
       OtherDigits u u′ → OtherDigits v v′ → OtherDigits w w′ → Renumbered (holding r f at m u v w) (holding r f at m u′ v′ w′)
 
--- the same number given back, the same actions but for digits, and the same call but for digits
+-- the same number given back, and the same actions and the same call but for telephone numbers
 pub record SameAnswer (a b : Outcome) : Type 0 where
   pub number : a .number ≡ b .number
   pub call : Renumbered (a .call) (b .call)
@@ -438,8 +490,8 @@ saidAlone act error component c =
             cause = 0;
             component = component;
             parts = 0;
-            calling = record { count = 0; value = 0 };
-            called = record { count = 0; value = 0 };
+            calling = absent;
+            called = absent;
             duration = 0;
           };
       first = act;

@@ -7,6 +7,7 @@ use Rattle.rows.specs.Numbers.{userNotSubscribed, rejectedByNetwork, rej
 use Rattle.rows.specs.Numbers.{basicServiceNotProvided, resourceUnavailable, userIgnored, alreadyRunning, normalClearing, iam, anm}
 use Rattle.rows.specs.Numbers.{con, rel, callingReqSetup, callingReqActive, calledRequest, callingPart, calledPart, acceptedPart}
 use Rattle.rows.specs.Numbers.{asTransferPart, partialPart, durationPart}
+use Rattle.rows.specs.Telephone.{absent}
 use Rattle.rows.specs.declared.Asked.{Asked}
 use Rattle.rows.specs.declared.Component.{Component}
 use Rattle.rows.specs.declared.Component.the-variants.{Absent, Invoke, Result, Error, Reject, Unknown}
@@ -96,9 +97,6 @@ errorOf (Result n) = 0
 errorOf (Error n) = n
 errorOf (Reject n) = 0
 errorOf (Unknown k n) = 0
-
-abbrev pub absent : Number
-absent = record { count = 0; value = 0 }
 
 abbrev pub plainOf : Kind → ℕ → ℕ → ℕ → ℕ → Reading
 plainOf kind item error cause seconds =

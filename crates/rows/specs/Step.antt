@@ -5,7 +5,8 @@ use mathlib.Core.Bool.{Bool, true, false}
 use Rattle.rows.specs.Find.{rowForOf}
 use Rattle.rows.specs.Numbers.{badField, notACall, iam, anm, rel, fac}
 use Rattle.rows.specs.Perform.{at, refusedOf, performOf}
-use Rattle.rows.specs.Read.{absent, flagsOf, readOf, cueOf, termsOf}
+use Rattle.rows.specs.Read.{flagsOf, readOf, cueOf, termsOf}
+use Rattle.rows.specs.Telephone.{absent}
 use Rattle.rows.specs.Rows.{planOf}
 use Rattle.rows.specs.Valid.{validOf, eventOk}
 use Rattle.meters.specs.Meters.{newOf}

@@ -6,13 +6,15 @@ use mathlib.Core.Bool.{true, false}
 use mathlib.Core.List.{List, [], _∷_}
 use mathlib.Core.Path.{_≡_, refl}
 use Rattle.meters.specs.declared.Payer.{Payer}
+use Rattle.rows.specs.History.{run as after}
 use Rattle.rows.specs.Numbers.{iam, anm, rel, fac, callingReqSetup, callingReqActive, calledRequest, notAvailable}
 use Rattle.rows.specs.Numbers.{basicServiceNotProvided}
 use Rattle.rows.specs.Numbers.{alreadyRunning, normalClearing, facilityRejected, noPart, transferPart, partialPart, callingPart}
 use Rattle.rows.specs.Numbers.{calledPart, durationPart, agreedParts}
 use Rattle.rows.specs.Perform.{at}
-use Rattle.rows.specs.Read.{absent, flagsOf}
+use Rattle.rows.specs.Read.{flagsOf}
 use Rattle.rows.specs.Step.{unopenedCall, stepOf, Deed, does, tells, sends, deedsOf}
+use Rattle.rows.specs.Telephone.{absent}
 use Rattle.rows.specs.declared.Act.the-variants.{NotifyAccepted, AccessSetup, AccessAsk, AccessError, AccessRel, ChargeCalling}
 use Rattle.rows.specs.declared.Act.the-variants.{ChargeCalled, Stop}
 use Rattle.rows.specs.declared.Call.{Call}
@@ -21,10 +23,11 @@ use Rattle.rows.specs.declared.Component.the-variants.{Absent, Invoke, R
 use Rattle.rows.specs.declared.Event.{Event}
 use Rattle.rows.specs.declared.Event.the-variants.{Opening, Ask, Received, FromAccess, Expiry, Time}
 use Rattle.rows.specs.declared.Message.{Message}
+use Rattle.rows.specs.declared.Nature.the-variants.{National, International}
 use Rattle.rows.specs.declared.Number.{Number}
 use Rattle.rows.specs.declared.Outcome.{Outcome}
 use Rattle.rows.specs.declared.Phase.{Phase}
-use Rattle.rows.specs.declared.Phase.the-variants.{Null, Setup, Answered, Cleared}
+use Rattle.rows.specs.declared.Phase.the-variants.{Unopened, Null, Setup, Answered, Cleared}
 use Rattle.rows.specs.declared.RevState.{RevState}
 use Rattle.rows.specs.declared.RevState.the-variants.{Idle, WaitSetup, WaitActive, WaitAnswer, WaitSetupConf, WaitActiveConf, WaitCalled}
 use Rattle.rows.specs.declared.RevState.the-variants.{Active}
@@ -55,7 +58,7 @@ run c [] = []
 run c (e ∷ es) = lineOf (stepOf c e) ∷ run (stepOf c e .call) es
 
 abbrev room : Number
-room = record { count = 7; value = 5550123 }
+room = record { nature = National; count = 7; value = 5550123 }
 
 abbrev message : ℕ → ℕ → Component → ℕ → Number → Number → ℕ → Message
 message k u x p calling called d =
@@ -133,54 +136,63 @@ unlisted-while-asked : run unopenedCall
     ∷ []
 unlisted-while-asked = refl
 
--- an originating call with these flags, answered, 40 s paid by the caller; then an invoke from the called side with these parts; 20 s
-abbrev forty-twenty : ℕ → ℕ → Number → List Line
-forty-twenty flags parts called =
-    run unopenedCall
-    (Opening 0 flags room ∷ Ask 0 room ∷ Received (plain anm 0 (Absent 0)) ∷ Time 40
-    ∷ Received (message fac 0 (Invoke calledRequest) parts absent called 0) ∷ Time 20 ∷ [])
-
-abbrev until-forty : List Line → List Line
-until-forty rest =
-    line 0 Null Idle 0 0 0 []
-    ∷ line 0 Setup Idle 0 0 0 (sends (plain iam 0 (Absent 0)) ∷ [])
-    ∷ line 0 Answered Idle 0 0 0 (does ChargeCalling ∷ [])
-    ∷ line 0 Answered Idle 40 0 0 [] ∷ rest
-
--- C accepted without transfer: 0, 60, 0
-entire-call : forty-twenty 8 calledPart room
-    ≡ until-forty
-    (line 0 Answered Active 0 40 0 (sends (plain fac 0 (Result calledRequest)) ∷ does NotifyAccepted ∷ does Stop ∷ does ChargeCalled ∷ [])
-    ∷ line 0 Answered Active 0 60 0 []
-    ∷ [])
-entire-call = refl
-
--- the same with transfer: 0, 0, 60, Duration 40
-entire-call-transferred : forty-twenty 9 transferPart absent
-    ≡ until-forty
-    (line 0 Answered Active 0 0 40
-    (sends (message fac 0 (Result calledRequest) (agreedParts + callingPart + durationPart) room absent 40)
-    ∷ does NotifyAccepted ∷ does Stop ∷ [])
-    ∷ line 0 Answered Active 0 0 60 []
-    ∷ [])
-entire-call-transferred = refl
-
--- as B without transfer: 40, 20, 0
-rest-of-call : forty-twenty 8 (partialPart + calledPart) room
-    ≡ until-forty
-    (line 0 Answered Active 40 0 0 (sends (plain fac 0 (Result calledRequest)) ∷ does NotifyAccepted ∷ does Stop ∷ does ChargeCalled ∷ [])
-    ∷ line 0 Answered Active 40 20 0 []
-    ∷ [])
-rest-of-call = refl
-
--- an answered call whose caller has used up so many seconds
-abbrev talked : ℕ → Call
-talked seconds =
+-- an answered originating call to a number, with these flags, whose caller has used up so many seconds
+abbrev talkedTo : Number → ℕ → ℕ → Call
+talkedTo called flags seconds =
     record {
-      side = record { role = Role.Originating; flags = flagsOf 8; own = room; calling = absent; called = room };
+      side = record { role = Role.Originating; flags = flagsOf flags; own = room; calling = absent; called = called };
       stand = at Answered Idle false false;
       meters = record { caller = seconds; called = 0; far = 0; payer = Payer.Caller };
     }
+
+abbrev talkedWith : ℕ → ℕ → Call
+talkedWith = talkedTo room
+
+abbrev talked : ℕ → Call
+talked = talkedWith 8
+
+-- opened with these flags, asked, answered, 40 s paid by the caller
+abbrev forty : ℕ → List Event
+forty flags = Opening 0 flags room ∷ Ask 0 room ∷ Received (plain anm 0 (Absent 0)) ∷ Time 40 ∷ []
+
+until-forty : run unopenedCall (forty 8)
+    ≡ line 0 Null Idle 0 0 0 []
+    ∷ line 0 Setup Idle 0 0 0 (sends (plain iam 0 (Absent 0)) ∷ [])
+    ∷ line 0 Answered Idle 0 0 0 (does ChargeCalling ∷ [])
+    ∷ line 0 Answered Idle 40 0 0 []
+    ∷ []
+until-forty = refl
+
+forty-talked : (after unopenedCall (forty 8) ≡ talkedWith 8 40) × (after unopenedCall (forty 9) ≡ talkedWith 9 40)
+forty-talked = (refl, refl)
+
+-- then an invoke from the called side with these parts; 20 s
+abbrev and-twenty : ℕ → ℕ → Number → List Line
+and-twenty flags parts called =
+    run (talkedWith flags 40) (Received (message fac 0 (Invoke calledRequest) parts absent called 0) ∷ Time 20 ∷ [])
+
+-- C accepted without transfer: 0, 60, 0
+entire-call : and-twenty 8 calledPart room
+    ≡ line 0 Answered Active 0 40 0 (sends (plain fac 0 (Result calledRequest)) ∷ does NotifyAccepted ∷ does Stop ∷ does ChargeCalled ∷ [])
+    ∷ line 0 Answered Active 0 60 0 []
+    ∷ []
+entire-call = refl
+
+-- the same with transfer: 0, 0, 60, Duration 40
+entire-call-transferred : and-twenty 9 transferPart absent
+    ≡ line 0 Answered Active 0 0 40
+    (sends (message fac 0 (Result calledRequest) (agreedParts + callingPart + durationPart) room absent 40)
+    ∷ does NotifyAccepted ∷ does Stop ∷ [])
+    ∷ line 0 Answered Active 0 0 60 []
+    ∷ []
+entire-call-transferred = refl
+
+-- as B without transfer: 40, 20, 0
+rest-of-call : and-twenty 8 (partialPart + calledPart) room
+    ≡ line 0 Answered Active 40 0 0 (sends (plain fac 0 (Result calledRequest)) ∷ does NotifyAccepted ∷ does Stop ∷ does ChargeCalled ∷ [])
+    ∷ line 0 Answered Active 40 20 0 []
+    ∷ []
+rest-of-call = refl
 
 -- time 86,400 accepted; 86,401 gives 3
 day-accepted : run (talked 0) (Time 86400 ∷ []) ≡ line 0 Answered Idle 86400 0 0 [] ∷ []
@@ -199,6 +211,53 @@ year-and-a-second = refl
 -- expiry in IDLE gives 1
 idle-expiry : run (talked 40) (Expiry ∷ []) ≡ line 1 Answered Idle 40 0 0 [] ∷ []
 idle-expiry = refl
+
+-- ---- National and international, 02 #103
+
+-- a room abroad that shares its digits with the one at home
+abbrev abroad : Number
+abroad = record { nature = International; count = 7; value = 5550123 }
+
+-- its own number is sent as it was opened
+abroad-sent : run unopenedCall (Opening 0 9 abroad ∷ Ask 1 room ∷ [])
+    ≡ line 0 Null Idle 0 0 0 []
+    ∷ line 0 Setup WaitSetup 0 0 0 (sends (message iam 0 (Invoke callingReqSetup) (transferPart + callingPart) abroad absent 0) ∷ [])
+    ∷ []
+abroad-sent = refl
+
+-- the numbers of an event are held as it brings them
+abroad-held : (after unopenedCall (Opening 0 8 room ∷ Ask 0 abroad ∷ []) .side .called ≡ abroad)
+    × (after unopenedCall
+    (Opening 1 9 room ∷ Received (message iam 0 (Invoke callingReqSetup) (transferPart + callingPart) abroad absent 0) ∷ []) .side .calling ≡ abroad)
+    × (after (talked 40) (Received (message fac 0 (Invoke calledRequest) (partialPart + calledPart) absent abroad 0) ∷ []) .side .called ≡ abroad)
+abroad-held = (refl, refl, refl)
+
+-- "A count of 0 has the bit clear": else 3, and no call holds one
+abbrev digitless : Number
+digitless = record { nature = International; count = 0; value = 0 }
+
+-- an opened call that holds these
+abbrev numbered : Number → Number → Call
+numbered own calling =
+    record {
+      side = record { role = Role.Originating; flags = flagsOf 8; own = own; calling = calling; called = absent };
+      stand = at Null Idle false false;
+      meters = record { caller = 0; called = 0; far = 0; payer = Payer.Nobody };
+    }
+
+digitless-refused : run unopenedCall (Opening 0 8 digitless ∷ Opening 0 8 room ∷ Ask 0 digitless ∷ Ask 2 digitless ∷ [])
+    ≡ line 3 Unopened Idle 0 0 0 []
+    ∷ line 0 Null Idle 0 0 0 []
+    ∷ line 3 Null Idle 0 0 0 []
+    ∷ line 3 Null Idle 0 0 0 []
+    ∷ []
+digitless-refused = refl
+
+digitless-held : (run (talkedTo digitless 8 40) (Time 1 ∷ []) ≡ line 9 Answered Idle 40 0 0 [] ∷ [])
+    × (run (numbered digitless absent) (Time 1 ∷ []) ≡ line 9 Null Idle 0 0 0 [] ∷ [])
+    × (run (numbered room digitless) (Time 1 ∷ []) ≡ line 9 Null Idle 0 0 0 [] ∷ [])
+    × (run (numbered room absent) (Time 1 ∷ []) ≡ line 1 Null Idle 0 0 0 [] ∷ [])
+digitless-held = (refl, refl, refl, refl)
 
 -- ---- The second press, 02 #101: "the wait goes on"
 

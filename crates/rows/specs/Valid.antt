@@ -4,6 +4,7 @@ use Prim.Native.Nat.{ℕ, _^_}
 use mathlib.Core.Bool.{Bool, true, false, _&&_, _||_, not}
 use Rattle.rows.specs.Numbers.{day, callingPart, calledPart, durationPart}
 use Rattle.rows.specs.Read.{bit}
+use Rattle.rows.specs.Telephone.{national}
 use lib.Dec.{ltb, leb, eqb}
 use Rattle.meters.specs.declared.Meters.{Meters}
 use Rattle.meters.specs.declared.Payer.{Payer}
@@ -100,8 +101,9 @@ pickℕ false a b = b
 abbrev pub tenTo : ℕ → ℕ
 tenTo n = pickℕ (leb n 15) (10 ^ n) 0
 
+-- 01: a value "below 10 to the count"; 02 #103: "A count of 0 has the bit clear"
 abbrev pub inRange : Number → Bool
-inRange n = ltb (n .value) (tenTo (n .count))
+inRange n = ltb (n .value) (tenTo (n .count)) && (national (n .nature) || leb 1 (n .count))
 
 -- 9: "a meter above 0 before ANSWERED"
 abbrev pub unmetered : Meters → Bool
@@ -155,13 +157,13 @@ validOf c =
 
 -- ---- 3: a field out of its range
 
--- "count 1 to 15", value "below 10 to the count"
+-- "count 1 to 15", value "below 10 to the count", of either nature
 abbrev pub numberThere : Number → Bool
 numberThere n = inRange n && leb 1 (n .count)
 
--- "or 0 with value 0 where stated"
+-- "or 0 with value 0 where stated"; 02 #103: "A count of 0 has the bit clear"
 abbrev pub numberAbsent : Number → Bool
-numberAbsent n = eqb (n .count) 0 && eqb (n .value) 0
+numberAbsent n = eqb (n .count) 0 && (eqb (n .value) 0 && national (n .nature))
 
 abbrev pub numberIf : Bool → Number → Bool
 numberIf b n = (b && numberThere n) || (not b && numberAbsent n)

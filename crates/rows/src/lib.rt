@@ -11,11 +11,13 @@ mod perform;
 mod read;
 mod rows;
 mod step;
+mod telephone;
 mod valid;
 
 use meters::Change;
 use meters::Meters;
 pub use numbers::APPLIED;
+pub use telephone::same_number;
 pub use valid::access_ok;
 pub use valid::ask_ok;
 pub use valid::in_range;
@@ -48,13 +50,26 @@ pub enum RevState {
     WaitCalled,
 }
 
-// A number as a record carries it: the count of its digits, and its value. Absent: 0 and 0.
+// 02 #103: "A number now also states its nature, national or international".
+pub enum Nature {
+    National,
+    International,
+}
+
+// A telephone number: its nature, the count of its digits, and its value. Two with the same digits, one at home and one abroad, are
+// two numbers.
 pub struct Number {
+    pub nature: Nature,
     pub count: u8,
     pub value: u64,
 }
 
-const ABSENT: Number = Number { count: 0, value: 0 };
+// No number.
+pub const ABSENT: Number = Number {
+    nature: Nature::National,
+    count: 0,
+    value: 0,
+};
 
 // A message's component, by 01's code: 0 to 4, with the byte that follows (operation or error number, else 0).
 pub enum Component {

@@ -16,6 +16,7 @@ use crate::Side;
 use crate::numbers::DAY;
 use crate::numbers::FAC;
 use crate::numbers::IAM;
+use crate::telephone::national;
 use meters::Meters;
 use meters::Payer;
 
@@ -141,12 +142,14 @@ fn ten_to(count: u8) -> u64
     }
 }
 
-// A number absent (0, 0), or of 1 to 15 digits: below ten to the count either way.
+// A number absent, or of 1 to 15 digits: below ten to the count either way. One without digits is national.
 pub fn in_range(n: Number) -> bool
     ensures { λ out. ⌜ out ≡ inRange n ⌝ }
 {
     let top = ten_to(n.count);
-    n.value < top
+    let nature = n.nature;
+    let home = national(nature);
+    (n.value < top) & (home | (1 <= n.count))
 }
 
 fn unmetered(m: Meters) -> bool
@@ -268,7 +271,9 @@ fn number_there(n: Number) -> bool
 fn number_absent(n: Number) -> bool
     ensures { λ out. ⌜ out ≡ numberAbsent n ⌝ }
 {
-    (n.count == 0) & (n.value == 0)
+    let nature = n.nature;
+    let home = national(nature);
+    (n.count == 0) & ((n.value == 0) & home)
 }
 
 // There where it should be, and absent where not.

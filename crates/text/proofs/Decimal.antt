@@ -18,7 +18,8 @@ value-on : (m : ℕ) (t : List ℕ) (d : ℕ) → valueFrom m (t ++ (d ∷ [])) 
 value-on m [] d = refl
 value-on m (x ∷ t) d = value-on (10 * m + (x - 48)) t d
 
-by-value : (k n : ℕ) → n < 10 ^ k → valueOf (decimalBy k n) ≡ n
+-- A number of at most k digits is what its decimal of at most k digits says.
+pub by-value : (k n : ℕ) → n < 10 ^ k → valueOf (decimalBy k n) ≡ n
 unfolding decimalBy
 by-value zero n h = omega arith
 by-value (suc k) n h =
@@ -47,7 +48,8 @@ digits-more : (t : List ℕ) (n : ℕ) → AllDigits t → AllDigits (t ++ (digi
 digits-more [] n h = (omega arith, omega arith, tt)
 digits-more (x ∷ t) n h = (h .0, h .1, digits-more t n (h .2))
 
-by-digits : (k n : ℕ) → AllDigits (decimalBy k n)
+-- .. and that is digits and nothing else.
+pub by-digits : (k n : ℕ) → AllDigits (decimalBy k n)
 unfolding decimalBy
 by-digits zero n = tt
 by-digits (suc k) n =

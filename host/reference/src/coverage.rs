@@ -1,7 +1,9 @@
-//! Counts how often each row and each number was reached.
+//! Counts how often each row and each number was reached, and each form of a telephone number.
 
-use crate::listing::Listing;
-use crate::model::{Given, Row};
+use crate::listing::{Listing, Reached};
+use crate::model::{self, events, Digits, Given, Row};
+use crate::write::{part, Event, Nature, Number};
+use std::collections::BTreeMap;
 use std::fmt::Write;
 
 const GENERAL: usize = 5;
@@ -37,12 +39,53 @@ const ENDING: [Row; 14] = [
     Row::D(52),
 ];
 
+/// The telephone numbers that a record can have.
+const FIELDS: [&str; 5] =
+    ["own number", "called number of a request", "number of a request B or C", "calling number", "called number"];
+
+/// What such a number can be, as a dump shows it: in range; absent; and out of range, of either nature.
+const FORMS: [&str; 8] = ["digits", "+digits", "-", "+0:0", "16:5", "+16:5", "3:1000", "+3:1000"];
+
+fn form(number: Number) -> &'static str {
+    let (of_national, of_international) = match (number.count, number.value) {
+        _ if number.in_range() => ("digits", "+digits"),
+        (0, 0) => ("-", "+0:0"),
+        (16.., _) => ("16:5", "+16:5"),
+        _ => ("3:1000", "+3:1000"),
+    };
+    match number.nature {
+        Nature::National => of_national,
+        Nature::International => of_international,
+    }
+}
+
+/// The numbers of a record, each by what it is. An event has no more of them than its parts name.
+fn numbers(event: &Event) -> Vec<(&'static str, Number)> {
+    match *event {
+        Event::Opening { own, .. } => vec![(FIELDS[0], own)],
+        Event::Request { request: 0..=1, called } => vec![(FIELDS[1], called)],
+        Event::Request { called, .. } => vec![(FIELDS[2], called)],
+        Event::Message(message) => {
+            [(part::CALLING, FIELDS[3], message.calling), (part::CALLED, FIELDS[4], message.called)]
+                .into_iter()
+                .filter(|(part, _, _)| message.names(*part))
+                .map(|(_, name, number)| (name, number))
+                .collect()
+        }
+        _ => vec![],
+    }
+}
+
 pub struct Coverage {
     applied: [u64; ROWS],
     absent: [u64; ROWS],
     too_much: [u64; ROWS],
     after_second_press: [u64; ROWS],
     numbers: [u64; 11],
+    /// by what the number is, and by its form
+    forms: BTreeMap<(&'static str, &'static str), u64>,
+    /// by the place of the row, by the part, and by whether it is international; what a row sends is sent with both natures
+    sent: BTreeMap<(usize, &'static str), [u64; 2]>,
     files: u64,
 }
 
@@ -72,21 +115,26 @@ impl Coverage {
             too_much: [0; ROWS],
             after_second_press: [0; ROWS],
             numbers: [0; 11],
+            forms: FIELDS.iter().flat_map(|field| FORMS.map(|form| ((*field, form), 0))).collect(),
+            sent: BTreeMap::new(),
             files: 0,
         }
     }
 
-    /// Counts one file's listing. Of a file that is refused only the 8 counts: nothing else of it is seen.
-    pub fn count(&mut self, listing: Option<&Listing>) {
+    /// Counts one file and its listing. Of a file that is refused only the 8 counts: nothing else of it is seen.
+    pub fn count(&mut self, file: &[u8], listing: Option<&Listing>) {
         self.files += 1;
         let Some(listing) = listing else {
             self.numbers[8] += 1;
             return;
         };
+        self.count_forms(file);
         let mut pressed = false;
-        for &(given, row) in &listing.reached {
+        for reached in &listing.reached {
+            let given = reached.given;
             self.numbers[given as usize] += 1;
-            let Some(row) = row else { continue };
+            let Some(row) = reached.row else { continue };
+            self.count_sent(row, reached);
             match given {
                 Given::Applied => {
                     self.applied[place(row)] += 1;
@@ -103,7 +151,27 @@ impl Coverage {
         }
     }
 
-    /// Everything that histories can reach, with its count: rows, numbers, and rows with the number they can give.
+    /// The telephone numbers of the records, read or refused.
+    fn count_forms(&mut self, file: &[u8]) {
+        let mut rest = file;
+        while let Some(record) = Some(rest).filter(|rest| !rest.is_empty()).and_then(|rest| events::frame(rest).ok()) {
+            let (bytes, after) = rest.split_at(record.size());
+            for (field, number) in numbers(&Event::of_record(bytes)) {
+                *self.forms.entry((field, form(number))).or_default() += 1;
+            }
+            rest = after;
+        }
+    }
+
+    fn count_sent(&mut self, row: Row, reached: &Reached) {
+        for (part, number) in [("CALLING", reached.calling), ("CALLED", reached.called)] {
+            let Some(Digits { nature, .. }) = number else { continue };
+            self.sent.entry((place(row), part)).or_default()[usize::from(nature == model::Nature::International)] += 1;
+        }
+    }
+
+    /// Everything that histories can reach, with its count: rows, numbers, rows with the number they can give, and telephone numbers
+    /// as they are read and as they are sent.
     fn all(&self) -> Vec<(String, u64)> {
         let rows = self.applied.iter().enumerate().map(|(place, &count)| (label(place), count));
         let numbers = NUMBERS.map(|number| (format!("number {number}"), self.numbers[number]));
@@ -111,7 +179,14 @@ impl Coverage {
         let too_much = SUMMING.map(|row| (format!("{} gives 2", label(place(row))), self.too_much[place(row)]));
         let ended = ENDING
             .map(|row| (format!("{} after a second press", label(place(row))), self.after_second_press[place(row)]));
-        rows.chain(numbers).chain(absent).chain(too_much).chain(ended).collect()
+        let forms = self.forms.iter().map(|((field, form), &count)| (format!("{field} {form}"), count));
+        let sent = self.sent.iter().flat_map(|((place, part), counts)| {
+            ["digits", "+digits"].into_iter().zip(counts).map(move |(form, &count)| {
+                let row = label(*place);
+                (format!("{row} sends {part} {form}"), count)
+            })
+        });
+        rows.chain(numbers).chain(absent).chain(too_much).chain(ended).chain(forms).chain(sent).collect()
     }
 
     /// What was never reached.
@@ -164,7 +239,7 @@ mod tests {
         let mut coverage = Coverage::new();
         for ordinal in 0..4000 {
             let file = generate::file(7, ordinal);
-            coverage.count(listing::listing(&file, listing::ROOM).as_ref());
+            coverage.count(&file, listing::listing(&file, listing::ROOM).as_ref());
         }
         assert_eq!(coverage.missing(), Vec::<String>::new());
     }

@@ -37,7 +37,7 @@ pub fn compare(count: u64, seed: u64, keep: &str, command: &[String]) -> Result<
             server.stop()?;
             return Ok(false);
         }
-        coverage.count(expected.as_ref());
+        coverage.count(&file, expected.as_ref());
         progress(ordinal + 1, count, "files");
     }
     server.end()?;

@@ -9,6 +9,7 @@ mod wanted;
 use crate::listing;
 use crate::model::events::{self, DAY, LONGEST_FILE};
 use crate::model::{flag, Call, Phase, Rev, YEAR};
+use crate::write::Number;
 use random::Random;
 
 /// The file of a seed and an ordinal. Each can be made again without those before it.
@@ -138,7 +139,7 @@ fn a_year(random: &mut Random) -> Vec<u8> {
 fn pressed_again(random: &mut Random) -> Vec<u8> {
     use flag::{CASE_D, INTERACTION, TRANSFER};
     let flags = INTERACTION | random.pick(&[0, TRANSFER, TRANSFER, TRANSFER, CASE_D, CASE_D | TRANSFER]);
-    let own = random.digits();
+    let own = random.number();
     let mut writer = Writer::new(random);
     writer.push(fields::opening_of(1, flags, own));
     writer.draw(wanted::plain_iam);
@@ -210,10 +211,10 @@ fn long(random: &mut Random) -> Vec<u8> {
 fn edge_of_listing(random: &mut Random) -> Vec<u8> {
     let target = listing::ROOM - 2 + random.below(5) as usize;
     let with_request_at = |random: &mut Random, place: usize, records: usize| {
-        let mut bytes = fields::opening_of(0, 0, (1, 1));
+        let mut bytes = fields::opening_of(0, 0, Number::national(1, 1));
         for ordinal in 0..records {
             if ordinal == place {
-                bytes.extend(fields::ask(0, (1, 5)));
+                bytes.extend(fields::ask(0, Number::national(1, 5)));
             } else {
                 bytes.extend(fields::refused_record(random));
             }

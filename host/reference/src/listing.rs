@@ -1,7 +1,9 @@
 //! 01, "The listing".
 
 use crate::model::events::LONGEST_FILE;
-use crate::model::{Action, Component, Digits, Given, History, Message, Name, Operation, Phase, Rev, Row, Shown};
+use crate::model::{
+    Action, Component, Digits, Given, History, Message, Name, Nature, Operation, Phase, Rev, Row, Shown,
+};
 use std::io::Write;
 
 /// The buffer of the listing program.
@@ -10,10 +12,31 @@ pub const ROOM: usize = 65_536;
 /// What the listing program prints on 8, alone.
 pub const REFUSED: &[u8] = b"REFUSED 8\n";
 
-/// A listing, and for each record shown its number and the row it was judged by.
+/// A listing, and what was reached by each record shown.
 pub struct Listing {
     pub text: Vec<u8>,
-    pub reached: Vec<(Given, Option<Row>)>,
+    pub reached: Vec<Reached>,
+}
+
+/// Of a record its number, the row it was judged by, and the numbers that were sent.
+pub struct Reached {
+    pub given: Given,
+    pub row: Option<Row>,
+    pub calling: Option<Digits>,
+    pub called: Option<Digits>,
+}
+
+impl Reached {
+    fn by(shown: &Shown) -> Reached {
+        let mut reached = Reached { given: shown.answer.given, row: shown.answer.row, calling: None, called: None };
+        for action in &shown.answer.actions {
+            if let Action::Send(message) = action {
+                reached.calling = reached.calling.or(message.parts.calling);
+                reached.called = reached.called.or(message.parts.called);
+            }
+        }
+        reached
+    }
 }
 
 /// Lists a file, or gives nothing for number 8: "listing longer than its buffer, or file too long".
@@ -28,7 +51,7 @@ pub fn listing(file: &[u8], room: usize) -> Option<Listing> {
         if text.len() > room {
             return None;
         }
-        reached.push((shown.answer.given, shown.answer.row));
+        reached.push(Reached::by(&shown));
     }
     line(&mut text, format_args!("END {}", reached.len()));
     (text.len() <= room).then_some(Listing { text, reached })
@@ -142,8 +165,11 @@ fn operation_name(operation: Operation) -> &'static str {
     }
 }
 
-/// "digits (as many as the count)"
+/// "digits (as many as the count)", and 02 #103: "the listing puts `+` before international digits"
 fn put_digits(text: &mut Vec<u8>, number: Digits) {
+    if number.nature == Nature::International {
+        text.push(b'+');
+    }
     put(text, format_args!("{:0width$}", number.value, width = usize::from(number.count)));
 }
 
@@ -207,6 +233,22 @@ mod tests {
         let shown = "REV 1\n1 0 NULL IDLE 0 0 0\n2 0 SETUP WAIT-SETUP 0 0 0\n> IAM INVOKE SETUP\n\
             3 0 SETUP WAIT-SETUP 0 0 0\n4 5 SETUP WAIT-SETUP 0 0 0\nEND 4\n";
         assert_eq!(text(&file, ROOM).as_deref(), Some(shown));
+    }
+
+    /// The nature is listed where a number is sent, directly before its digits, of which the leading zeros stay.
+    #[test]
+    fn natures_are_listed() {
+        let sent = |count: u8, value: u8| {
+            let opening = [13, 0, 1, 0, 0, 9, count, value, 0, 0, 0, 0, 0, 0, 0];
+            let request = [12, 0, 2, 0, 1, 0x87, 0x2B, 0xB0, 0x54, 0, 0, 0, 0, 0];
+            let text = text(&[opening.as_slice(), &request].concat(), ROOM).expect("a short listing");
+            text.lines().find_map(|line| line.strip_prefix("> IAM INVOKE SETUP TRANSFER CALLING ")).map(str::to_string)
+        };
+        for (count, value, digits) in [(3, 7, "007"), (0x83, 7, "+007"), (0x81, 0, "+0"), (0x8F, 1, "+000000000000001")]
+        {
+            assert_eq!(sent(count, value).as_deref(), Some(digits));
+        }
+        assert_eq!(sent(0x80, 0), None);
     }
 
     /// All cases of these files: `## name`, one record a line in hex, `=`, and the listing up to an empty line.

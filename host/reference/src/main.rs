@@ -20,7 +20,7 @@ const USAGE: &str = "usage:
                                                  compares COMMAND's listings of N files with the model's
   reference writes --count N --seed S [--keep PATH] -- COMMAND ARGS..
                                                  compares what COMMAND writes of N events with the model's
-  reference coverage --count N --seed S          how often N files reach each row and number
+  reference coverage --count N --seed S          how often N files reach each row, number and nature
   reference undump FILE < DUMP                   whether a dump is FILE's: it is read back
   reference generate --count N --seed S --out DIR
                                                  writes N files
@@ -76,7 +76,7 @@ fn run(words: &[String]) -> Result<bool, Trouble> {
             let mut coverage = coverage::Coverage::new();
             for ordinal in 0..options.number("--count")? {
                 let file = generate::file(options.number("--seed")?, ordinal);
-                coverage.count(listing::listing(&file, listing::ROOM).as_ref());
+                coverage.count(&file, listing::listing(&file, listing::ROOM).as_ref());
             }
             print!("{}", coverage.report());
             Ok(coverage.missing().is_empty())

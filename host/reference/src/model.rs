@@ -10,7 +10,7 @@ mod destination;
 pub mod events;
 mod originating;
 
-pub use events::{Access, Ask, Component, Digits, Event, Message, Name, Operation, Parts, Role};
+pub use events::{Access, Ask, Component, Digits, Event, Message, Name, Nature, Operation, Parts, Role};
 
 /// 01, "Numbers given back", 2: what the sum of the meters, or a Duration that a row uses, may not pass.
 pub const YEAR: u32 = 31_536_000;
@@ -387,7 +387,7 @@ mod tests {
     use super::*;
 
     fn opened(role: Role, flags: u8) -> Call {
-        let own = Digits { count: 3, value: 42 };
+        let own = Digits { nature: Nature::National, count: 3, value: 42 };
         Call::before_opening().answer(&Event::Opening { role, flags, own }).call
     }
 
@@ -415,7 +415,7 @@ mod tests {
     /// 01, "Calls to try": 40 s paid by the caller, then C or B, then 20 s.
     #[test]
     fn forty_then_twenty() {
-        let called = Some(Digits { count: 1, value: 7 });
+        let called = Some(Digits { nature: Nature::National, count: 1, value: 7 });
         let cases = [
             (8, Parts { called, ..Parts::default() }, (0, 60, 0)),
             (9, Parts { transfer_requested: true, ..Parts::default() }, (0, 0, 60)),
@@ -468,7 +468,7 @@ mod tests {
             let parts = Parts { transfer_accepted: true, as_transfer: true, calling, duration, ..Parts::default() };
             waiting.answer(&message(Name::Fac, Component::Result(Operation::Called), parts))
         };
-        let number = Some(Digits { count: 2, value: 1 });
+        let number = Some(Digits { nature: Nature::International, count: 2, value: 1 });
         assert_eq!(result(None, Some(YEAR + 1)).given, Given::PartAbsent);
         assert_eq!(result(number, None).given, Given::PartAbsent);
         assert_eq!(result(number, Some(YEAR + 1)).given, Given::TooMuch);

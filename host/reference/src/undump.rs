@@ -180,26 +180,30 @@ impl<'a> Words<'a> {
         Some(flags)
     }
 
-    /// The nine bytes of a telephone number.
+    /// The nine bytes of a telephone number. A `+` sets the top bit of the first; its other seven are the count.
     fn number(&mut self) -> Option<Vec<u8>> {
         let word = self.0.next()?;
+        if word == "-" {
+            return Some(vec![0; 9]);
+        }
+        let (bit, counted) = word.strip_prefix('+').map_or((0, word), |counted| (0x80, counted));
         let in_range = |count: u64, value: u64| (1..=15).contains(&count) && value < 10_u64.pow(count as u32);
-        let (count, value) = match word.split_once(':') {
-            _ if word == "-" => (0, 0),
+        let (count, value) = match counted.split_once(':') {
             Some((count, value)) => {
                 let (count, value) = (decimal(count)?, decimal(value)?);
-                if in_range(count, value) || (count, value) == (0, 0) {
+                // What has digits is shown by them, and nine zero bytes are `-`.
+                if in_range(count, value) || word == "0:0" {
                     return None;
                 }
-                (count, value)
+                (u8::try_from(count).ok().filter(|count| *count < 0x80)?, value)
             }
             None => {
-                let digits = word.bytes().all(|byte| byte.is_ascii_digit());
-                let (count, value) = (word.len() as u64, word.parse().ok().filter(|_| digits)?);
-                in_range(count, value).then_some((count, value))?
+                let digits = counted.bytes().all(|byte| byte.is_ascii_digit());
+                let (count, value) = (counted.len() as u64, counted.parse().ok().filter(|_| digits)?);
+                in_range(count, value).then_some((count as u8, value))?
             }
         };
-        Some([vec![u8::try_from(count).ok()?], value.to_le_bytes().to_vec()].concat())
+        Some([vec![bit | count], value.to_le_bytes().to_vec()].concat())
     }
 }
 
@@ -228,6 +232,30 @@ mod tests {
     }
 
     #[test]
+    fn numbers_are_read_back() {
+        for (word, count, value) in [
+            ("-", 0, 0),
+            ("5550100", 7, 5_550_100),
+            ("+5550100", 0x87, 5_550_100),
+            ("007", 3, 7),
+            ("+007", 0x83, 7),
+            ("+999999999999999", 0x8F, 999_999_999_999_999),
+            ("0:1", 0, 1),
+            ("+0:0", 0x80, 0),
+            ("+0:1", 0x80, 1),
+            ("16:5", 16, 5),
+            ("+16:5", 0x90, 5),
+            ("3:1000", 3, 1000),
+            ("+3:1000", 0x83, 1000),
+            ("127:0", 127, 0),
+            ("+127:18446744073709551615", 255, u64::MAX),
+        ] {
+            let body = [vec![2, count], value.to_le_bytes().to_vec()].concat();
+            assert_eq!(words(&format!("REQUEST B {word}")), Some([vec![12, 0, 2, 0], body].concat()), "{word}");
+        }
+    }
+
+    #[test]
     fn a_record_alone() {
         assert_eq!(only_record("RECORDS 1\n1 0 EXPIRY\n"), Some(vec![2, 0, 5, 0]));
         for dump in
@@ -251,7 +279,19 @@ mod tests {
             "REQUEST B 0:0",
             "REQUEST B 7:5550123",
             "REQUEST B 1234567890123456",
-            "REQUEST B +5",
+            "REQUEST B +",
+            "REQUEST B +-",
+            "REQUEST B -5",
+            "REQUEST B ++5",
+            "REQUEST B 5+",
+            "REQUEST B + 5",
+            "REQUEST B +7:5550123",
+            "REQUEST B 7:+5550123",
+            "REQUEST B +16:+5",
+            "REQUEST B +1234567890123456",
+            "REQUEST B 128:0",
+            "REQUEST B +128:0",
+            "REQUEST B 255:1",
             "OPENING originating 8 -",
             "OPENING originating interaction,transfer -",
             "OPENING originating transfer,transfer -",
@@ -266,6 +306,28 @@ mod tests {
         ] {
             assert_eq!(words(line), None, "{line}");
         }
+    }
+
+    /// The lines that tests/record.sh tries: their bytes; or 3, and then the words are those of a record that has a field out of range.
+    #[test]
+    fn lines_to_record() {
+        let path = format!("{}/../../tests/record.txt", env!("CARGO_MANIFEST_DIR"));
+        let text = std::fs::read_to_string(&path).unwrap_or_else(|error| panic!("{path}: {error}"));
+        let mut count = 0;
+        for line in text.lines().filter(|line| !line.is_empty() && !line.starts_with('#')) {
+            let (said, answer) = line.split_once(" = ").expect("words and an answer");
+            let record = words(said).unwrap_or_else(|| panic!("{line}: no record has these words"));
+            let event = events::frame(&record).expect("right framing").event();
+            if answer == "3" {
+                assert_eq!(event, None, "{line}");
+            } else {
+                let hex: Vec<String> = record.iter().map(|byte| format!("{byte:02X}")).collect();
+                assert_eq!(hex.join(" "), answer, "{line}");
+                assert!(event.is_some(), "{line}");
+            }
+            count += 1;
+        }
+        assert!(count > 0, "no lines in {path}");
     }
 
     #[test]

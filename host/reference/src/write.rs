@@ -1,19 +1,48 @@
 //! The model's own writer of events, from docs/FORMAT.md and 02 #102. It shares no code with the reader of the model, and takes fields
 //! as a host gives them, in range or not.
 
-/// A telephone number.
+/// What a telephone number is, as 02 #103 adds it.
+#[derive(Clone, Copy, PartialEq, Eq, Debug)]
+pub enum Nature {
+    National,
+    International,
+}
+
+impl Nature {
+    pub const ALL: [Nature; 2] = [Nature::National, Nature::International];
+
+    /// What it adds to the count byte.
+    fn bit(self) -> u8 {
+        match self {
+            Nature::National => 0,
+            Nature::International => 0x80,
+        }
+    }
+}
+
+/// A telephone number. The count is a number of digits, and has no top bit to spare: one of 128 or more is out of range.
 #[derive(Clone, Copy, PartialEq, Eq, Debug)]
 pub struct Number {
+    pub nature: Nature,
     pub count: u8,
     pub value: u64,
 }
 
 impl Number {
     /// "Where a number is not wanted it is nine zero bytes."
-    pub const ABSENT: Number = Number { count: 0, value: 0 };
+    pub const ABSENT: Number = Number::national(0, 0);
 
-    /// "a count of digits, one byte, 1 to 15, and 8 bytes of value, below ten to the count": the value has no more digits than that.
-    fn in_range(self) -> bool {
+    pub const fn national(count: u8, value: u64) -> Number {
+        Number { nature: Nature::National, count, value }
+    }
+
+    pub const fn international(count: u8, value: u64) -> Number {
+        Number { nature: Nature::International, count, value }
+    }
+
+    /// "a count of digits, 1 to 15, and 8 bytes of value, below ten to the count": the value has no more digits than that. The nature is
+    /// either.
+    pub fn in_range(self) -> bool {
         self.count <= 15 && self.value.to_string().len() <= usize::from(self.count)
     }
 
@@ -25,8 +54,9 @@ impl Number {
         }
     }
 
-    fn bytes(self) -> Vec<u8> {
-        [vec![self.count], self.value.to_le_bytes().to_vec()].concat()
+    /// Of a count that its seven bits do not hold, they are not what is written, and yet nine.
+    pub fn bytes(self) -> Vec<u8> {
+        [vec![self.nature.bit() | self.count], self.value.to_le_bytes().to_vec()].concat()
     }
 }
 
@@ -206,7 +236,9 @@ impl Fields<'_> {
         if !there {
             return Number::ABSENT;
         }
-        Number { count: self.byte(), value: u64::from_le_bytes(self.take()) }
+        let first = self.byte();
+        let nature = if first & 0x80 == 0 { Nature::National } else { Nature::International };
+        Number { nature, count: first & 0x7F, value: u64::from_le_bytes(self.take()) }
     }
 
     fn seconds(&mut self, there: bool) -> u32 {
@@ -229,8 +261,8 @@ impl Fields<'_> {
 mod tests {
     use super::*;
 
-    const HOME: Number = Number { count: 7, value: 5_550_100 };
-    const MOST: Number = Number { count: 15, value: 999_999_999_999_999 };
+    const HOME: Number = Number::national(7, 5_550_100);
+    const MOST: Number = Number::international(15, 999_999_999_999_999);
 
     /// FAC with a result to CALLED and every part, 31 bytes.
     const FULL: Message = Message {
@@ -256,10 +288,6 @@ mod tests {
         duration: 0,
     };
 
-    fn number(count: u8, value: u64) -> Number {
-        Number { count, value }
-    }
-
     fn opening(role: u8, flags: u8, own: Number) -> Event {
         Event::Opening { role, flags, own }
     }
@@ -279,7 +307,7 @@ mod tests {
     fn full_record() -> Vec<u8> {
         let head = vec![29, 0, 3, 0, 5, 127, 2, 3, 127];
         let calling = vec![7, 0x14, 0xB0, 0x54, 0, 0, 0, 0, 0];
-        let called = vec![15, 0xFF, 0x7F, 0xC6, 0xA4, 0x7E, 0x8D, 3, 0];
+        let called = vec![0x8F, 0xFF, 0x7F, 0xC6, 0xA4, 0x7E, 0x8D, 3, 0];
         [head, calling, called, vec![255; 4]].concat()
     }
 
@@ -288,7 +316,8 @@ mod tests {
     fn records() {
         let records = [
             (opening(0, 8, HOME), vec![13, 0, 1, 0, 0, 8, 7, 0x14, 0xB0, 0x54, 0, 0, 0, 0, 0]),
-            (request(1, number(1, 0)), vec![12, 0, 2, 0, 1, 1, 0, 0, 0, 0, 0, 0, 0, 0]),
+            (request(1, Number::national(1, 0)), vec![12, 0, 2, 0, 1, 1, 0, 0, 0, 0, 0, 0, 0, 0]),
+            (request(1, Number::international(1, 0)), vec![12, 0, 2, 0, 1, 0x81, 0, 0, 0, 0, 0, 0, 0, 0]),
             (request(2, Number::ABSENT), vec![12, 0, 2, 0, 2, 0, 0, 0, 0, 0, 0, 0, 0, 0]),
             (Event::Message(PLAIN), vec![7, 0, 3, 0, 2, 0, 0, 0, 0]),
             (Event::Message(FULL), full_record()),
@@ -326,15 +355,22 @@ mod tests {
             ("role", opening(2, 31, HOME)),
             ("flags", opening(1, 32, HOME)),
             ("number", opening(1, 0, Number::ABSENT)),
-            ("number", opening(1, 0, number(0, 1))),
-            ("number", opening(1, 0, number(1, 10))),
-            ("number", opening(1, 0, number(15, MOST.value + 1))),
-            ("number", opening(1, 0, number(16, 0))),
-            ("number", opening(1, 0, number(255, u64::MAX))),
+            ("number", opening(1, 0, Number::national(0, 1))),
+            ("number", opening(1, 0, Number::national(1, 10))),
+            ("number", opening(1, 0, Number::national(15, MOST.value + 1))),
+            ("number", opening(1, 0, Number::national(16, 0))),
+            ("number", opening(1, 0, Number::national(0x87, 5_550_100))),
+            ("number", opening(1, 0, Number::national(255, u64::MAX))),
+            ("number", opening(1, 0, Number::international(0, 0))),
+            ("number", opening(1, 0, Number::international(1, 10))),
+            ("number", opening(1, 0, Number::international(16, 0))),
+            ("number", opening(1, 0, Number::international(0x87, 5_550_100))),
             ("request", request(4, Number::ABSENT)),
             ("number", request(0, Number::ABSENT)),
-            ("number", request(2, number(0, 1))),
-            ("number", request(3, number(1, 0))),
+            ("number", request(1, Number::international(0, 0))),
+            ("number", request(2, Number::national(0, 1))),
+            ("number", request(2, Number::international(0, 0))),
+            ("number", request(3, Number::national(1, 0))),
             ("message", message(|m| m.message = 0)),
             ("message", message(|m| m.message = 6)),
             ("cause", message(|m| m.cause = 128)),
@@ -349,6 +385,10 @@ mod tests {
             ("calling number", full(|m| m.parts &= !part::CALLING)),
             ("called number", full(|m| m.called.value += 1)),
             ("called number", message(|m| m.called.count = 1)),
+            ("called number", message(|m| m.called.nature = Nature::International)),
+            ("calling number", message(|m| m.calling.nature = Nature::International)),
+            ("calling number", full(|m| m.calling = Number::international(0, 0))),
+            ("called number", full(|m| m.called.count = 0x8F)),
             ("duration", full(|m| m.parts &= !part::DURATION)),
             ("told", access(0, 0)),
             ("told", access(6, 0)),
@@ -396,8 +436,19 @@ mod tests {
             for digits in 0..20 {
                 let limit = 10_u64.pow(digits);
                 for value in [limit - 1, limit, limit + 1, 0, u64::MAX] {
-                    judged(opening(0, 0, number(byte, value)));
-                    judged(Event::Message(Message { calling: number(byte, value), ..FULL }));
+                    for nature in Nature::ALL {
+                        let number = Number { nature, count: byte, value };
+                        let (opening, request) = (opening(0, 0, number), [request(0, number), request(3, number)]);
+                        let message = Event::Message(Message { calling: number, ..FULL });
+                        for event in [opening, message].into_iter().chain(request) {
+                            if byte < 0x80 {
+                                judged(event);
+                            } else {
+                                // Such a count has no byte that the reader could see.
+                                assert_ne!(event.bad_fields(), Vec::<&str>::new(), "{event:?}");
+                            }
+                        }
+                    }
                 }
             }
         }

@@ -1,15 +1,15 @@
 //! Compares another program's writers of events with the model's, event by event.
 //!
-//! The other program is started once. For each event it is sent its kind, a byte; its fields, in the order of the writers' parameters
-//! in host/c/rev.h; and a 4-byte length and the bytes of the buffer to lend. It answers, before it reads on, with the 4 bytes that the
-//! writer gave back; the bytes of the buffer after the call; and a 4-byte length and the dump of the record, which is empty where none
-//! was written. All numbers are little-endian. It ends when its input does.
+//! The other program is started once. For each event it is sent its kind, a byte; its fields, in the order of the writers' parameters in
+//! host/c/rev.h, of which a bool is a byte, 0 or 1; and a 4-byte length and the bytes of the buffer to lend. It answers, before it reads
+//! on, with the 4 bytes that the writer gave back; the bytes of the buffer after the call; and a 4-byte length and the dump of the
+//! record, which is empty where none was written. All numbers are little-endian. It ends when its input does.
 
 mod classes;
 
 use crate::generate::lent::lent;
 use crate::server::{end_progress, progress, Server};
-use crate::write::{Event, Number};
+use crate::write::{Event, Nature, Number};
 use crate::{undump, Trouble};
 use classes::{Case, Classes};
 use std::io::{Read, Write};
@@ -49,7 +49,10 @@ pub fn compare(count: u64, seed: u64, keep: &str, command: &[String]) -> Result<
 
 /// What is sent for an event.
 fn question(event: &Event, before: &[u8]) -> Vec<u8> {
-    let number = |number: Number| [vec![number.count], number.value.to_le_bytes().to_vec()].concat();
+    let number = |number: Number| {
+        let international = u8::from(number.nature == Nature::International);
+        [vec![international, number.count], number.value.to_le_bytes().to_vec()].concat()
+    };
     let fields = match *event {
         Event::Opening { role, flags, own } => [vec![role, flags], number(own)].concat(),
         Event::Request { request, called } => [vec![request], number(called)].concat(),
@@ -135,19 +138,18 @@ mod tests {
 
     #[test]
     fn questions() {
-        let number = |value| Number { count: 1, value };
         let message = Event::Message(Message {
             message: 1,
             cause: 2,
             component: 3,
             item: 4,
             parts: 5,
-            calling: number(6),
-            called: number(7),
+            calling: Number::national(1, 6),
+            called: Number::international(0x81, 7),
             duration: 0x01020304,
         });
-        let fields =
-            [[1, 2, 3, 4, 5].as_slice(), &[1, 6, 0, 0, 0, 0, 0, 0, 0], &[1, 7, 0, 0, 0, 0, 0, 0, 0], &[4, 3, 2, 1]];
+        let numbers = [[0, 1, 6, 0, 0, 0, 0, 0, 0, 0], [1, 0x81, 7, 0, 0, 0, 0, 0, 0, 0]].concat();
+        let fields = [[1, 2, 3, 4, 5].as_slice(), &numbers, &[4, 3, 2, 1]];
         assert_eq!(question(&message, &[9]), [&[3], fields.concat().as_slice(), &[1, 0, 0, 0, 9]].concat());
         assert_eq!(question(&Event::Expiry, &[]), [5, 0, 0, 0, 0]);
         assert_eq!(question(&TIME, &[8, 9]), [6, 60, 0, 0, 0, 2, 0, 0, 0, 8, 9]);

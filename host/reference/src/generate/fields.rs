@@ -2,9 +2,7 @@
 
 use super::random::Random;
 use crate::model::events::DAY;
-
-/// A digit count and a value, whether in range or not.
-pub type Number = (u8, u64);
+use crate::write::Number;
 
 fn record(kind: u8, body: &[u8]) -> Vec<u8> {
     let mut bytes = vec![body.len() as u8 + 2, 0, kind, 0];
@@ -12,15 +10,8 @@ fn record(kind: u8, body: &[u8]) -> Vec<u8> {
     bytes
 }
 
-fn put(body: &mut Vec<u8>, (count, value): Number) {
-    body.push(count);
-    body.extend(value.to_le_bytes());
-}
-
 pub fn opening_of(role: u8, flags: u8, own: Number) -> Vec<u8> {
-    let mut body = vec![role, flags];
-    put(&mut body, own);
-    record(1, &body)
+    record(1, &[vec![role, flags], own.bytes()].concat())
 }
 
 /// An opening in either role. All flags occur; but interaction is mostly allowed and the user mostly subscribed, since
@@ -34,19 +25,17 @@ pub fn opening(random: &mut Random) -> Vec<u8> {
     if random.below(3) > 0 {
         flags |= 4;
     }
-    let own = random.digits();
+    let own = random.number();
     opening_of(role, flags, own)
 }
 
 pub fn ask(request: u8, number: Number) -> Vec<u8> {
-    let mut body = vec![request];
-    put(&mut body, number);
-    record(2, &body)
+    record(2, &[vec![request], number.bytes()].concat())
 }
 
 /// A request with the number that belongs to it.
 pub fn good_ask(random: &mut Random, request: u8) -> Vec<u8> {
-    let number = if request < 2 { random.digits() } else { (0, 0) };
+    let number = if request < 2 { random.number() } else { Number::ABSENT };
     ask(request, number)
 }
 
@@ -55,7 +44,7 @@ pub fn message(random: &mut Random, name: u8, component: u8, detail: u8, parts: 
     let mut body = vec![name, random.cause(), component, detail, parts];
     for bit in [16, 32] {
         if parts & bit != 0 {
-            put(&mut body, random.digits());
+            body.extend(random.number().bytes());
         }
     }
     if parts & 64 != 0 {
@@ -188,21 +177,35 @@ pub fn spoil(random: &mut Random, record: &mut [u8]) {
     }
 }
 
-/// Bytes of a count and a value: no digits or too many, or a value with one digit more than the count.
+/// The top bit of the first byte of a number: it is international.
+const INTERNATIONAL: u8 = 0x80;
+
+/// Bytes of a nature, a count and a value: no digits or too many, or a value with one digit more than the count, of either nature.
 fn spoil_number(random: &mut Random, number: &mut [u8]) {
-    let count = number[0];
+    let (count, nature) = (number[0] & !INTERNATIONAL, random.pick(&[0, INTERNATIONAL]));
     match random.below(4) {
-        0 => number[0] = random.pick(&[0, 16, 17, 255]),
-        1 => number[1..9].copy_from_slice(&10_u64.pow(u32::from(count.min(15))).to_le_bytes()),
-        2 => number[8] = random.pick(&[1, 128, 255]),
-        // Count and value both absent, or both there where neither belongs.
-        _ if count > 0 => number[..9].fill(0),
-        _ => number[0] = 1,
+        0 => number[0] = nature | random.pick(&[0, 16, 17, 127]),
+        1 => {
+            number[0] = nature | count;
+            number[1..9].copy_from_slice(&10_u64.pow(u32::from(count.min(15))).to_le_bytes());
+        }
+        2 => {
+            number[0] = nature | count;
+            number[8] = random.pick(&[1, 128, 255]);
+        }
+        // No digits and no value, in nine zero bytes or with the bit; or, where none belong, the bit, a digit or both.
+        _ if count > 0 => {
+            number[..9].fill(0);
+            number[0] = nature;
+        }
+        _ => number[0] = random.pick(&[1, INTERNATIONAL, INTERNATIONAL | 1]),
     }
 }
 
+/// Where there is a number, it is the bad field in half of all messages.
 fn spoil_message(random: &mut Random, body: &mut [u8]) {
-    match random.below(7) {
+    let fields = if body.len() >= 14 { 12 } else { 6 };
+    match random.below(fields) {
         0 => body[0] = random.pick(&[0, 6, 7, 255]),
         1 => body[1] = random.pick(&[128, 129, 255]),
         2 => body[2] = random.pick(&[5, 6, 128, 255]),
@@ -215,12 +218,11 @@ fn spoil_message(random: &mut Random, body: &mut [u8]) {
         }
         4 => body[4] |= 128,
         5 => body[4] = body[4] & !2 | 4,
-        _ if body.len() >= 14 => {
+        _ => {
             // The first number there, or the second.
             let second = if body.len() >= 23 && random.below(2) == 0 { 9 } else { 0 };
             spoil_number(random, &mut body[5 + second..14 + second]);
         }
-        _ => body[1] |= 128,
     }
 }
 

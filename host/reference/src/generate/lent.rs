@@ -2,7 +2,7 @@
 
 use super::fields;
 use super::random::Random;
-use crate::write::{part, Event, Message, Number};
+use crate::write::{part, Event, Message, Nature, Number};
 
 /// The event and the buffer of a seed and an ordinal. Each can be made again without those before it.
 pub fn lent(seed: u64, ordinal: u64) -> (Event, Vec<u8>) {
@@ -19,6 +19,7 @@ fn event(random: &mut Random) -> Event {
         10..=14 => spoilt(random, 1),
         15 => spoilt(random, 2),
         16..=17 => unnamed(random),
+        18 => large_count(random),
         _ => wild(random),
     }
 }
@@ -58,13 +59,37 @@ fn unnamed(random: &mut Random) -> Event {
 }
 
 fn not_absent(random: &mut Random) -> Number {
-    let (count, value) = match random.below(4) {
-        0 => (0, 1),
-        1 => (1, 0),
-        2 => (0, random.next().max(1)),
-        _ => random.digits(),
-    };
-    Number { count, value }
+    match random.below(5) {
+        0 => Number::national(0, 1),
+        1 => Number::national(1, 0),
+        2 => Number::international(0, 0),
+        3 => Number { nature: random.pick(&Nature::ALL), count: 0, value: random.next().max(1) },
+        _ => random.number(),
+    }
+}
+
+/// An event with a count that no record holds, and which is its only bad field: the count byte of an international number in the place
+/// of a count, or any other with the top bit.
+fn large_count(random: &mut Random) -> Event {
+    let mut number = random.number();
+    number.count = random.pick(&[0x80, 0x80 | number.count, 0x80 | number.count, 0xFF]);
+    let (name, part) = (1 + random.below(5) as u8, random.pick(&[part::CALLING, part::CALLED]));
+    let mut event = Event::of_record(&match random.below(3) {
+        0 => fields::opening(random),
+        1 => {
+            let request = random.below(2) as u8;
+            fields::good_ask(random, request)
+        }
+        _ => fields::message(random, name, 0, 0, part),
+    });
+    match &mut event {
+        Event::Opening { own, .. } => *own = number,
+        Event::Request { called, .. } => *called = number,
+        Event::Message(message) if part == part::CALLING => message.calling = number,
+        Event::Message(message) => message.called = number,
+        _ => unreachable!("an event with a number"),
+    }
+    event
 }
 
 /// Fields of any bytes, or of small ones.
@@ -74,8 +99,10 @@ fn wild(random: &mut Random) -> Event {
     let (a, b, c, d, e) = (byte(), byte(), byte(), byte(), byte());
     let counts = (byte(), byte());
     let mut value = || random.next() >> random.below(64);
-    let (calling, called) = (Number { count: counts.0, value: value() }, Number { count: counts.1, value: value() });
+    let values = (value(), value());
     let seconds = value() as u32;
+    let calling = Number { nature: random.pick(&Nature::ALL), count: counts.0, value: values.0 };
+    let called = Number { nature: random.pick(&Nature::ALL), count: counts.1, value: values.1 };
     match random.below(6) {
         0 => Event::Opening { role: a, flags: b, own: calling },
         1 => Event::Request { request: a, called },
@@ -124,6 +151,15 @@ mod tests {
         for _ in 0..2000 {
             let event = unnamed(&mut random);
             assert!(matches!(event.bad_fields()[..], ["calling number" | "called number" | "duration"]), "{event:?}");
+        }
+    }
+
+    #[test]
+    fn large_counts_alone_are_bad() {
+        let mut random = Random::new(4, 1);
+        for _ in 0..2000 {
+            let event = large_count(&mut random);
+            assert!(matches!(event.bad_fields()[..], ["number" | "calling number" | "called number"]), "{event:?}");
         }
     }
 }

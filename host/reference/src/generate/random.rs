@@ -2,6 +2,7 @@
 
 use crate::model::events::DAY;
 use crate::model::YEAR;
+use crate::write::{Nature, Number};
 
 pub struct Random(u64);
 
@@ -35,8 +36,9 @@ impl Random {
         choices[self.below(choices.len() as u64) as usize]
     }
 
-    /// A number in range: one digit, fifteen, or any count; the least and the greatest value, or any.
-    pub fn digits(&mut self) -> (u8, u64) {
+    /// A number in range, of either nature: one digit, fifteen, or any count; the least and the greatest value, or any.
+    pub fn number(&mut self) -> Number {
+        let nature = self.pick(&Nature::ALL);
         let count = match self.below(6) {
             0 => 1,
             1 => 15,
@@ -50,7 +52,7 @@ impl Random {
             3 => self.below(limit.min(1000)),
             _ => self.below(limit),
         };
-        (count, value)
+        Number { nature, count, value }
     }
 
     /// Seconds of a time event, mostly in range.
@@ -112,8 +114,8 @@ mod tests {
     fn numbers_are_in_range() {
         let mut random = Random::new(1, 1);
         for _ in 0..2000 {
-            let (count, value) = random.digits();
-            assert!((1..=15).contains(&count) && value < 10_u64.pow(u32::from(count)));
+            let number = random.number();
+            assert!((1..=15).contains(&number.count) && number.value < 10_u64.pow(u32::from(number.count)));
         }
     }
 }

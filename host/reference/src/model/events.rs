@@ -14,17 +14,27 @@ pub enum Role {
     Destination,
 }
 
-/// A user number: `count` digits, of which the leading ones may be zeros.
+/// 02 #103: "A number now also states its nature, national or international".
+#[derive(Clone, Copy, PartialEq, Eq, Debug)]
+pub enum Nature {
+    National,
+    International,
+}
+
+/// A user number: `count` digits, of which the leading ones may be zeros. "Two numbers are equal only with equal nature,
+/// count and value": so the derived equality has it.
 #[derive(Clone, Copy, PartialEq, Eq, Debug)]
 pub struct Digits {
+    pub nature: Nature,
     pub count: u8,
     pub value: u64,
 }
 
 impl Digits {
-    pub const ABSENT: Digits = Digits { count: 0, value: 0 };
+    /// "A count of 0 has the bit clear."
+    pub const ABSENT: Digits = Digits { nature: Nature::National, count: 0, value: 0 };
 
-    /// "below 10 to the count; count 1 to 15"
+    /// "below 10 to the count; count 1 to 15", of either nature
     fn in_range(self) -> bool {
         (1..=15).contains(&self.count) && self.value < 10_u64.pow(u32::from(self.count))
     }
@@ -224,8 +234,13 @@ impl Fields<'_> {
         self.little_endian(4) as u32
     }
 
+    /// The nature is "in the top bit of the count byte (set for international)".
     fn digits(&mut self) -> Digits {
-        Digits { count: self.byte(), value: self.little_endian(8) }
+        let (nature, count) = match self.byte() {
+            byte @ 0..=127 => (Nature::National, byte),
+            byte => (Nature::International, byte - 128),
+        };
+        Digits { nature, count, value: self.little_endian(8) }
     }
 
     fn message(&mut self) -> Option<Message> {
@@ -349,15 +364,26 @@ mod tests {
             [(2, 0, 1, 1), (0, 32, 1, 1), (0, 0, 0, 0), (0, 0, 16, 0), (0, 0, 1, 10), (0, 0, 15, 1_000_000_000_000_000)]
         {
             assert_eq!(opening(role, flags, count, value), None);
+            assert_eq!(opening(role, flags, 0x80 | count, value), None);
         }
+        for (count, nature) in [(7, Nature::National), (0x87, Nature::International)] {
+            let own = Digits { nature, count: 7, value: 5_550_100 };
+            let opened = Event::Opening { role: Role::Originating, flags: 0, own };
+            assert_eq!(opening(0, 0, count, 5_550_100), Some(opened));
+        }
+        assert!(opening(1, 0, 0x8F, 999_999_999_999_999).is_some());
+        assert_eq!(opening(0, 0, 0xFF, 0), None);
         let ask = |ask: u8, count: u8, value: u64| {
             let mut bytes = vec![12, 0, 2, 0, ask, count];
             bytes.extend(value.to_le_bytes());
             event(&bytes)
         };
         assert_eq!(ask(1, 1, 0), Some(Event::Ask(Ask::A)));
+        assert_eq!(ask(1, 0x81, 0), Some(Event::Ask(Ask::A)));
         assert_eq!(ask(3, 0, 0), Some(Event::Ask(Ask::C)));
-        for (number, count, value) in [(0, 0, 0), (2, 1, 1), (2, 0, 1), (4, 0, 0)] {
+        for (number, count, value) in
+            [(0, 0, 0), (0, 0x80, 0), (2, 1, 1), (2, 0, 1), (2, 0x80, 0), (2, 0x81, 1), (3, 0x80, 0), (4, 0, 0)]
+        {
             assert_eq!(ask(number, count, value), None);
         }
     }
@@ -383,11 +409,16 @@ mod tests {
         }
         let mut full = vec![29, 0, 3, 0, 5, 0, 2, 3, 0x72];
         full.extend([2, 7, 0, 0, 0, 0, 0, 0, 0]);
-        full.extend([1, 8, 0, 0, 0, 0, 0, 0, 0]);
+        full.extend([0x81, 8, 0, 0, 0, 0, 0, 0, 0]);
         full.extend([40, 0, 0, 0]);
         let Some(Event::Message(message)) = event(&full) else { panic!("a message") };
-        assert_eq!(message.parts.calling, Some(Digits { count: 2, value: 7 }));
-        assert_eq!(message.parts.called, Some(Digits { count: 1, value: 8 }));
+        assert_eq!(message.parts.calling, Some(Digits { nature: Nature::National, count: 2, value: 7 }));
+        assert_eq!(message.parts.called, Some(Digits { nature: Nature::International, count: 1, value: 8 }));
         assert_eq!(message.parts.duration, Some(40));
+        for place in [9, 18] {
+            let mut none = full.clone();
+            none[place..place + 9].copy_from_slice(&[0x80, 0, 0, 0, 0, 0, 0, 0, 0]);
+            assert_eq!(event(&none), None);
+        }
     }
 }

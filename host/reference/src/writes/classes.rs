@@ -1,6 +1,6 @@
 //! Counts how often each class of events and rooms was reached.
 
-use crate::write::{part, Event, Message, Number, Refusal};
+use crate::write::{part, Event, Message, Nature, Number, Refusal};
 use std::fmt::Write;
 
 /// An event, the room that it was lent, and what the model gave: the record's length or a refusal.
@@ -31,18 +31,36 @@ impl Case {
         }
     }
 
-    /// The numbers that are wanted in the event.
-    fn wanted(&self) -> Vec<Number> {
+    /// The numbers that are wanted in the event, each by what it is.
+    fn wanted(&self) -> Vec<(&'static str, Number)> {
         match &self.event {
-            Event::Opening { own, .. } => vec![*own],
-            Event::Request { request: 0..=1, called } => vec![*called],
-            Event::Message(message) => [(part::CALLING, message.calling), (part::CALLED, message.called)]
-                .into_iter()
-                .filter(|(part, _)| message.names(*part))
-                .map(|(_, number)| number)
-                .collect(),
+            Event::Opening { own, .. } => vec![(NUMBERS[0], *own)],
+            Event::Request { request: 0..=1, called } => vec![(NUMBERS[1], *called)],
+            Event::Message(message) => {
+                [(part::CALLING, NUMBERS[2], message.calling), (part::CALLED, NUMBERS[3], message.called)]
+                    .into_iter()
+                    .filter(|(part, _, _)| message.names(*part))
+                    .map(|(_, name, number)| (name, number))
+                    .collect()
+            }
             _ => vec![],
         }
+    }
+
+    /// Whether a number of which this holds is wanted in the event.
+    fn wants(&self, holds: impl Fn(Number) -> bool) -> bool {
+        self.wanted().into_iter().any(|(_, number)| holds(number))
+    }
+}
+
+/// What a number is that is wanted.
+const NUMBERS: [&str; 4] = ["own number", "called number of a request", "calling number", "called number"];
+
+/// How a dump shows the nature: the names of classes have it before the rest.
+fn sign(nature: Nature) -> &'static str {
+    match nature {
+        Nature::National => "",
+        Nature::International => "+",
     }
 }
 
@@ -85,6 +103,7 @@ impl Classes {
         classes.bad_fields();
         classes.values();
         classes.bounds();
+        classes.natures();
         classes.unnamed();
         classes
     }
@@ -210,26 +229,60 @@ impl Classes {
         for seconds in [86_401, u32::MAX] {
             self.add(format!("seconds {seconds}"), move |case| case.event == Event::Time { seconds });
         }
-        for digits in 1..=15 {
-            let nines = 10_u64.pow(digits) - 1;
-            let most = Number { count: digits as u8, value: nines };
-            let over = Number { count: digits as u8, value: nines + 1 };
-            self.add(format!("{digits} nines"), move |case| case.written() && case.wanted().contains(&most));
-            self.add(format!("ten to the {digits}"), move |case| bad_number(case) && case.wanted().contains(&over));
-        }
-        for count in [0, 16, 255] {
-            self.add(format!("a count of {count}"), move |case| {
-                bad_number(case) && case.wanted().iter().any(|number| number.count == count)
-            });
-        }
         self.add("a wanted number is absent".into(), |case| {
-            bad_number(case) && case.wanted().contains(&Number::ABSENT)
+            bad_number(case) && case.wants(|number| number == Number::ABSENT)
         });
+    }
+
+    /// Each number with each nature, and the bounds of both. A count of 128 or more is no count byte.
+    fn natures(&mut self) {
+        for nature in Nature::ALL {
+            let sign = sign(nature);
+            for name in NUMBERS {
+                let is = move |case: &Case, holds: fn(Number) -> bool| {
+                    case.wanted().into_iter().any(|(n, number)| n == name && number.nature == nature && holds(number))
+                };
+                self.add(format!("{name} {sign}digits"), move |case| case.written() && is(case, |_| true));
+                self.add(format!("{name} {sign}0:0"), move |case| {
+                    bad_number(case) && is(case, |number| (number.count, number.value) == (0, 0))
+                });
+                self.add(format!("{name} with a count of {sign}16 to 127"), move |case| {
+                    bad_number(case) && is(case, |number| (16..128).contains(&number.count))
+                });
+                self.add(format!("{name} with a value of more than {sign}digits"), move |case| {
+                    bad_number(case) && is(case, |number| (1..16).contains(&number.count) && !number.in_range())
+                });
+                self.add(format!("{name} with a count of {sign}128 and digits in range"), move |case| {
+                    bad_number(case)
+                        && is(case, |number| {
+                            number.count > 128 && Number { count: number.count - 128, ..number }.in_range()
+                        })
+                });
+            }
+            for digits in 1..=15 {
+                let nines = 10_u64.pow(digits) - 1;
+                let most = Number { nature, count: digits as u8, value: nines };
+                let over = Number { value: nines + 1, ..most };
+                self.add(format!("{sign}{digits} nines"), move |case| case.written() && case.wants(|n| n == most));
+                self.add(format!("ten to the {sign}{digits}"), move |case| {
+                    bad_number(case) && case.wants(|number| number == over)
+                });
+            }
+            for count in [0, 16, 127, 128, 255] {
+                self.add(format!("a count of {sign}{count}"), move |case| {
+                    bad_number(case) && case.wants(|number| (number.nature, number.count) == (nature, count))
+                });
+            }
+        }
     }
 
     /// A field that nothing names, its least value among them.
     fn unnamed(&mut self) {
-        for (name, number) in [("count", Number { count: 1, value: 0 }), ("value", Number { count: 0, value: 1 })] {
+        for (name, number) in [
+            ("nature", Number::international(0, 0)),
+            ("count", Number::national(1, 0)),
+            ("value", Number::national(0, 1)),
+        ] {
             self.add(format!("a {name} in a request B or C"), move |case| {
                 case.only_bad("number")
                     && matches!(case.event, Event::Request { request: 2..=3, called } if called == number)

@@ -7,4 +7,4 @@ pub number-at-spec : {M : Type 1} → statement M
 number-at-spec =
     tie.close
     (tie.spec
-    (λ c. λ κs. search needs) (λ c. search needs) (λ c. λ κs. search needs) (λ c. search (number-as)))
+    (λ c. λ κs. search needs) (λ c. λ κs. search needs) (λ c. λ κs. search needs) (λ c. search needs) (λ c. λ κs. search needs) (λ c. search (number-as)))

@@ -9,5 +9,4 @@ unfolding withDigits
 put-with-digits-spec =
     tie.close
     (tie.spec
-    (λ c. search needs) (λ c. λ κs. search needs) (λ c. λ κs. search needs) (λ c. search needs)
-    (λ c. (search puts, search needs)))
+    (λ c. λ κs. search needs) (λ c. λ κs. search needs) (λ c. search needs) (λ c. (search puts, search needs)))

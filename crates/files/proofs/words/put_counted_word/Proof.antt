@@ -9,5 +9,4 @@ unfolding countedWord
 put-counted-word-spec =
     tie.close
     (tie.spec
-    (λ c. λ κs. search needs) (λ c. search needs) (λ c. λ κs. search needs) (λ c. λ κs. search needs) (λ c. search needs)
-    (λ c. (search (put-three), search needs)))
+    (λ c. λ κs. search needs) (λ c. λ κs. search needs) (λ c. search needs) (λ c. λ κs. search needs) (λ c. λ κs. search needs) (λ c. λ κs. search needs) (λ c. search needs) (λ c. (search (put-three), search needs)))

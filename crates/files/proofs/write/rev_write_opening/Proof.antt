@@ -1,5 +1,5 @@
 use borrow.Author.Needs.{needs}
-use Rattle.files.proofs.Puts.{numbered-as}
+use Rattle.files.proofs.Puts.{passed-as, opening-made}
 use Rattle.files.proofs.write.rev_write_opening.Statement.{statement}
 use Rattle.files.proofs.write.rev_write_opening.Tie as tie
 
@@ -7,5 +7,5 @@ pub rev-write-opening-spec : {M : Type 1} → statement M
 rev-write-opening-spec =
     tie.close
     (tie.spec
-    (λ c. λ κs. search needs) (λ c. λ κs. search needs) (λ c. search needs)
-    (λ c. numbered-as _ _ _ _ _ (c .number-of .ensures) (c .before .before .before .write-opening .ensures)))
+    (λ c. λ κs. search needs) (λ c. λ κs. search needs) (λ c. λ κs. search needs) (λ c. search needs)
+    (λ c. let d = c .before .before .before in passed-as _ _ _ _ _ _ (opening-made _ _ _ _ (d .before .before .number-with .ensures)) (c .number-of .ensures) (d .write-opening .ensures)))

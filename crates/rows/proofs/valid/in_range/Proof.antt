@@ -6,4 +6,4 @@ pub in-range-spec : {M : Type 1} → statement M
 in-range-spec =
     tie.close
     (tie.spec
-    (λ c. λ κs. search needs) (λ c. simp (c .before .ten-to .ensures)))
+    (λ c. λ κs. search needs) (λ c. λ κs. search needs) (λ c. simp (c .before .before .national .ensures, c .before .before .before .ten-to .ensures)))

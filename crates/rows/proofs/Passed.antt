@@ -1,0 +1,177 @@
+-- NUMBERS ARE PASSED ON WHOLE: one that is sent is the own number of the call, and one that is held was held, or the event brought it, each
+-- with its nature, its count and its value. So two rooms that share their digits stay two rooms.
+-- Assumes nothing.
+use mathlib.Core.Bool.{Bool, true, false, _||_, not}
+use mathlib.Core.List.{List, [], _∷_}
+use mathlib.Core.Logic.{_⊎_, inl, inr}
+use mathlib.Core.Path.{_≡_, refl, subst, _∙_}
+use Prim.Native.Nat.{ℕ}
+use lib.Dec.{leb}
+use Rattle.meters.specs.Meters.{changeOf}
+use Rattle.meters.specs.declared.Metered.{Metered}
+use Rattle.meters.specs.declared.Metered.the-variants.{Done, NoPayer, TooMuch}
+use Rattle.rows.specs.Perform.{refusedOf, ifThere, orHeld, sideOf, settledOf, performIf, appliesOf}
+use Rattle.rows.specs.Promises.{OneOf, this, later, ownIn, callingIn, calledIn, PassedOn, HeldOr, Keeps, isOpening}
+use Rattle.rows.specs.Read.{bit, readOf}
+use Rattle.rows.specs.Step.{ifInRange, ifCall, stepOf}
+use Rattle.rows.specs.Telephone.{absent}
+use Rattle.rows.specs.Valid.{eventOk, validOf}
+use Rattle.rows.specs.declared.Call.{Call}
+use Rattle.rows.specs.declared.Event.{Event}
+use Rattle.rows.specs.declared.Event.the-variants.{Opening, Ask, Received, FromAccess, Expiry, Time}
+use Rattle.rows.specs.declared.Number.{Number}
+use Rattle.rows.specs.declared.Plan.{Plan}
+use Rattle.rows.specs.declared.Reading.{Reading}
+use Rattle.rows.specs.declared.Register.{Register}
+use Rattle.rows.specs.declared.Register.the-variants.{AsHeld, FromOpening, CalledNumber, CallingNumber}
+use Rattle.rows.specs.declared.Side.{Side}
+use Rattle.rows.proofs.Answers.{planFor}
+use Rattle.rows.proofs.Found.{Test, holds, stepped}
+use Rattle.rows.proofs.Phases.{isOpens, opens}
+use Rattle.rows.proofs.Truth.{differ, or-none}
+
+-- ---- what is sent, what is held
+
+sent : (b : Bool) (own : Number) → OneOf (ifThere b own) (absent ∷ own ∷ [])
+sent true own = later this
+sent false own = this
+
+held : (b : Bool) (n h : Number) → OneOf (orHeld b n h) (h ∷ n ∷ absent ∷ [])
+held true n h = later this
+held false n h = this
+
+own-held : (x : Register) (s : Side) (r : Reading) → OneOf (sideOf x s r .own) (s .own ∷ r .own ∷ [])
+own-held AsHeld s r = this
+own-held FromOpening s r = later this
+own-held CalledNumber s r = this
+own-held CallingNumber s r = this
+
+calling-held : (x : Register) (s : Side) (r : Reading) → OneOf (sideOf x s r .calling) (s .calling ∷ r .calling ∷ absent ∷ [])
+calling-held AsHeld s r = this
+calling-held FromOpening s r = later (later this)
+calling-held CalledNumber s r = this
+calling-held CallingNumber s r = held (leb 1 (r .calling .count)) (r .calling) (s .calling)
+
+called-held : (x : Register) (s : Side) (r : Reading) → OneOf (sideOf x s r .called) (s .called ∷ r .called ∷ absent ∷ [])
+called-held AsHeld s r = this
+called-held FromOpening s r = later (later this)
+called-held CalledNumber s r = held (leb 1 (r .called .count)) (r .called) (s .called)
+called-held CallingNumber s r = this
+
+-- ---- the numbers that an event brings are read as they are
+
+own-read : (e : Event) → readOf e .own ≡ ownIn e
+own-read (Opening r f n) = refl
+own-read (Ask q n) = refl
+own-read (Received m) = refl
+own-read (FromAccess a n) = refl
+own-read Expiry = refl
+own-read (Time s) = refl
+
+calling-read : (e : Event) → readOf e .calling ≡ callingIn e
+calling-read (Opening r f n) = refl
+calling-read (Ask q n) = refl
+calling-read (Received m) = refl
+calling-read (FromAccess a n) = refl
+calling-read Expiry = refl
+calling-read (Time s) = refl
+
+called-read : (e : Event) → readOf e .called ≡ calledIn e
+called-read (Opening r f n) = refl
+called-read (Ask q n) = refl
+called-read (Received m) = refl
+called-read (FromAccess a n) = refl
+called-read Expiry = refl
+called-read (Time s) = refl
+
+-- ---- a step
+
+module _ (c : Call) (e : Event) where
+  refused : (n : ℕ) → PassedOn c e (refusedOf n c)
+  refused n = record { calling-sent = this; called-sent = this; own-held = this; calling-held = this; called-held = this }
+
+  settled : (m : Metered) (p : Plan) → PassedOn c e (settledOf m c p (readOf e))
+  settled (Done after) p =
+      record {
+        calling-sent = sent (bit 16 (p .parts)) (c .side .own);
+        called-sent = sent (bit 32 (p .parts)) (c .side .own);
+        own-held =
+            subst (λ (n : Number). OneOf (sideOf (p .register) (c .side) (readOf e) .own) (c .side .own ∷ n ∷ [])) (own-read e)
+            (own-held (p .register) (c .side) (readOf e));
+        calling-held =
+            subst (λ (n : Number). OneOf (sideOf (p .register) (c .side) (readOf e) .calling) (c .side .calling ∷ n ∷ absent ∷ [])) (calling-read e)
+            (calling-held (p .register) (c .side) (readOf e));
+        called-held =
+            subst (λ (n : Number). OneOf (sideOf (p .register) (c .side) (readOf e) .called) (c .side .called ∷ n ∷ absent ∷ [])) (called-read e)
+            (called-held (p .register) (c .side) (readOf e));
+      }
+  settled NoPayer p = refused 10
+  settled TooMuch p = refused 2
+
+  performed : (b : Bool) (p : Plan) → PassedOn c e (performIf b c p (readOf e))
+  performed true p = settled (changeOf (p .change) (c .meters) (readOf e .seconds)) p
+  performed false p = refused (p .number)
+
+  in-range : (b : Bool) → PassedOn c e (ifInRange b c e)
+  in-range true = performed (appliesOf (planFor c e .number)) (planFor c e)
+  in-range false = refused 3
+
+  of-a-call : (b : Bool) → PassedOn c e (ifCall b c e)
+  of-a-call true = in-range (eventOk e)
+  of-a-call false = refused 9
+
+  pub passed-on : PassedOn c e (stepOf c e)
+  passed-on = of-a-call (validOf c)
+
+-- ---- without an opening nothing is forgotten
+
+-- the register that begins anew
+abbrev anew : Register → Bool
+anew AsHeld = false
+anew FromOpening = true
+anew CalledNumber = false
+anew CallingNumber = false
+
+abbrev onlyOpenings : Test
+onlyOpenings r now k p = not (anew (p .register)) || isOpens k
+
+kept-or : (b : Bool) (n held : Number) → leb 1 (n .count) ≡ b → HeldOr (orHeld b n held) held n
+kept-or true n held h = inr (refl, h)
+kept-or false n held h = inl refl
+
+own-kept : (x : Register) (s : Side) (r : Reading) → not (anew x) ≡ true → sideOf x s r .own ≡ s .own
+own-kept AsHeld s r h = refl
+own-kept FromOpening s r h = differ h
+own-kept CalledNumber s r h = refl
+own-kept CallingNumber s r h = refl
+
+calling-kept : (x : Register) (s : Side) (r : Reading) → not (anew x) ≡ true → HeldOr (sideOf x s r .calling) (s .calling) (r .calling)
+calling-kept AsHeld s r h = inl refl
+calling-kept FromOpening s r h = differ h
+calling-kept CalledNumber s r h = inl refl
+calling-kept CallingNumber s r h = kept-or (leb 1 (r .calling .count)) (r .calling) (s .calling) refl
+
+called-kept : (x : Register) (s : Side) (r : Reading) → not (anew x) ≡ true → HeldOr (sideOf x s r .called) (s .called) (r .called)
+called-kept AsHeld s r h = inl refl
+called-kept FromOpening s r h = differ h
+called-kept CalledNumber s r h = kept-or (leb 1 (r .called .count)) (r .called) (s .called) refl
+called-kept CallingNumber s r h = inl refl
+
+pub keeps : (c : Call) (e : Event) → isOpening e ≡ false → Keeps c e (stepOf c e)
+keeps c e h =
+    let x = planFor c e .register in
+    let a : not (anew x) ≡ true =
+    or-none _ (subst (λ (b : Bool). (not (anew x) || b) ≡ true) (opens e ∙ h) (holds onlyOpenings (λ e t a b. refl) c e)) in
+    stepped (Keeps c e) c e (λ v. stays 9) (λ n v p q. stays n)
+    (λ n _. record {
+      own = own-kept x (c .side) (readOf e) a;
+      calling =
+          subst (λ (m : Number). HeldOr (sideOf x (c .side) (readOf e) .calling) (c .side .calling) m) (calling-read e)
+          (calling-kept x (c .side) (readOf e) a);
+      called =
+          subst (λ (m : Number). HeldOr (sideOf x (c .side) (readOf e) .called) (c .side .called) m) (called-read e)
+          (called-kept x (c .side) (readOf e) a);
+    })
+  where
+    stays : (n : ℕ) → Keeps c e (refusedOf n c)
+    stays n = record { own = refl; calling = inl refl; called = inl refl }
