@@ -93,8 +93,9 @@ size_t rev_dump(const uint8_t *file, size_t file_len, uint8_t *out, size_t out_l
  * passes a number that is too large for its parameter's type without its high bits, and none of them sees it: 256 as a count arrives as 0,
  * 4294967356 seconds as 60. Look before you pass it (-Wconversion warns).
  *
- * What they ask: `out` is not null, even at length 0, and out_len bytes are there to be written; none outside is touched. They too keep
- * nothing between calls, allocate nothing and call nothing.
+ * What they ask: `out` is not null, even at length 0, and out_len bytes are there to be written; none outside is touched; and the caller
+ * was compiled with this header: the three that take a number had one parameter less for each before 02 #103, and no linker compares
+ * them. They too keep nothing between calls, allocate nothing and call nothing.
  *
  * The promise is proved of crates/files/src/write.rt. That these declarations fit it is tested (test.c) and not proved.
  */

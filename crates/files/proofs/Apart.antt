@@ -7,9 +7,9 @@ use mathlib.Core.List.{List, [], _∷_, _++_, head-eq-of-cons-eq, tail-eq-of-con
 use mathlib.Core.Logic.{_⊎_, inl, inr}
 use Prim.Native.Nat.{ℕ, _^_, _≤_, _<_}
 use native.Mathlib.Omega.{arith}
-use lib.Dec.{ltb, leb, eqb}
+use lib.Dec.{leb, eqb}
 use lib.ListN.{length}
-use borrow.Author.Tests.{ltb-true, leb-true, leb-false, eqb-true, eq-eqb}
+use borrow.Author.Tests.{leb-true, leb-false, eqb-true, eq-eqb}
 use Rattle.text.specs.Choose.{ifEq, ifSo}
 use Rattle.text.specs.Text.{ascii, lastDigits, decimalBy, decimal, numbered}
 use Rattle.text.specs.Value.{AllDigits, NoDigit, valueOf}
@@ -17,7 +17,10 @@ use Rattle.text.proofs.Cases.{yes-eq, no-eq, yes-so, no-so, both-eq}
 use Rattle.text.proofs.Decimal.{decimal-value, by-value, decimal-digits, by-digits, last-digits, decimal-some}
 use Rattle.text.proofs.Ends.{digits-end, digits-length, digits-apart}
 use Rattle.rows.specs.Telephone.{national}
-use Rattle.rows.specs.Valid.{pickℕ, tenTo, inRange, numberThere}
+use Rattle.rows.specs.Valid.{inRange, numberThere}
+use Rattle.rows.specs.declared.Act.{Act}
+use Rattle.rows.specs.declared.Act.the-variants.{Nothing, NotifyAccepted, AccessSetup, AccessAsk, AccessError, AccessRel, ChargeCalling}
+use Rattle.rows.specs.declared.Act.the-variants.{ChargeCalled, Stop, SendIam, SendAnm, SendRel, SendFac}
 use Rattle.rows.specs.declared.Component.{Component}
 use Rattle.rows.specs.declared.Nature.{Nature}
 use Rattle.rows.specs.declared.Nature.the-variants.{National, International}
@@ -26,10 +29,12 @@ use Rattle.rows.specs.declared.Number.{Number}
 use Rattle.rows.proofs.SameNumbers.{number-equal, digitless-is-absent}
 use Rattle.rows.proofs.Truth.{both, differ, left, right}
 use Rattle.files.specs.Bytes.{part}
+use Rattle.files.specs.Lines.{actionText}
 use Rattle.files.specs.Messages.{componentText, textIf, signText, numberText, withDigits, partsText, valuesText, carriedText}
 use Rattle.files.specs.Messages.{sentText, releasedText}
 use Rattle.files.specs.Typed.{TypedNumber}
 use Rattle.files.specs.Words.{digitsWord, valueText, countedWord, numberWord}
+use Rattle.files.proofs.CountByte.{in-range-value}
 
 -- ---- A sign, digits, and what stands after them
 
@@ -57,16 +62,6 @@ signed International International d e s t p q m n u v h =
 
 -- ---- The text of a number, and what stands after it
 
--- up to 15 digits, a value is below 10 to their count; past 15 none is in range
-below : (b : Bool) (x v : ℕ) → v < pickℕ b x 0 → v < x
-below true x v h = h
-below false x v h = absurd (omega arith)
-
-in-range-value : (n : Number) → inRange n ≡ true → n .value < 10 ^ n .count
-in-range-value n h =
-    let g : ltb (n .value) (tenTo (n .count)) ≡ true = left _ (national (n .nature) || leb 1 (n .count)) h in
-    below (leb (n .count) 15) (10 ^ n .count) (n .value) (ltb-true (n .value) (tenTo (n .count)) g)
-
 number-after : (a b : Number) → inRange a ≡ true → inRange b ≡ true → (s t : List ℕ) → NoDigit s → NoDigit t
     → NoSign (lastDigits (a .count) (a .value) ++ s) → NoSign (lastDigits (b .count) (b .value) ++ t)
     → numberText a ++ s ≡ numberText b ++ t → (a ≡ b) × (s ≡ t)
@@ -75,7 +70,7 @@ number-after a b p q s t m n u v h =
     let d = lastDigits (a .count) (a .value) in
     let e = lastDigits (b .count) (b .value) in
     let r = signed (a .nature) (b .nature) d e s t (last-digits (a .count) (a .value)) (last-digits (b .count) (b .value)) m n u v h in
-    let w = digits-apart (a .count) (b .count) (a .value) (b .value) (in-range-value a p) (in-range-value b q) (r .1) in
+    let w = digits-apart (a .count) (b .count) (a .value) (b .value) (in-range-value a p .1) (in-range-value b q .1) (r .1) in
     (number-equal (r .0) (w .0) (w .1), r .2)
 
 there-no-sign : (n : Number) (s : List ℕ) → numberThere n ≡ true → NoSign (lastDigits (n .count) (n .value) ++ s)
@@ -205,20 +200,52 @@ carried-apart m n e f p q h =
     (spaced-both (m .parts) (m .duration)) (spaced-both (m .parts) (n .duration)) (r .1) in
     (r .0, l .0)
 
--- The same of the whole line of a message with a name: `> IAM`, `> ANM` or `> FAC`.
-pub sent-apart : (name : List ℕ) (m n : Note) → m .component ≡ n .component → m .parts ≡ n .parts → NamedInRange m → NamedInRange n
+-- The same of the whole line of a message with a name, `> IAM`, `> ANM` or `> FAC`, and of the line of a REL, of the same cause.
+sent-apart : (name : List ℕ) (m n : Note) → m .component ≡ n .component → m .parts ≡ n .parts → NamedInRange m → NamedInRange n
     → sentText name m ≡ sentText name n → NamedSame m n
 unfolding sentText
 sent-apart name m n e f p q h = carried-apart m n e f p q (append-cancel-left name (carriedText m) (carriedText n) h)
 
--- And of the line of a REL, of the same cause.
-pub released-apart : (m n : Note) → m .cause ≡ n .cause → m .component ≡ n .component → m .parts ≡ n .parts → NamedInRange m
+released-apart : (m n : Note) → m .cause ≡ n .cause → m .component ≡ n .component → m .parts ≡ n .parts → NamedInRange m
     → NamedInRange n → releasedText m ≡ releasedText n → NamedSame m n
 unfolding releasedText
 released-apart m n g e f p q h =
     carried-apart m n e f p q
     (append-cancel-left (numbered (ascii "> REL ") (m .cause)) (carriedText m) (carriedText n)
     (h ∙ ap (λ (c : ℕ). numbered (ascii "> REL ") c ++ carriedText n) (sym g)))
+
+-- An action that sends a message.
+abbrev pub isMessage : Act → Bool
+isMessage Nothing = false
+isMessage NotifyAccepted = false
+isMessage AccessSetup = false
+isMessage AccessAsk = false
+isMessage AccessError = false
+isMessage AccessRel = false
+isMessage ChargeCalling = false
+isMessage ChargeCalled = false
+isMessage Stop = false
+isMessage SendIam = true
+isMessage SendAnm = true
+isMessage SendRel = true
+isMessage SendFac = true
+
+-- So it is of the line that the listing has for the action.
+pub action-apart : (act : Act) (m n : Note) → isMessage act ≡ true → (act ≡ SendRel → m .cause ≡ n .cause) → m .component ≡ n .component
+    → m .parts ≡ n .parts → NamedInRange m → NamedInRange n → actionText m act ≡ actionText n act → NamedSame m n
+action-apart Nothing m n s g = differ s
+action-apart NotifyAccepted m n s g = differ s
+action-apart AccessSetup m n s g = differ s
+action-apart AccessAsk m n s g = differ s
+action-apart AccessError m n s g = differ s
+action-apart AccessRel m n s g = differ s
+action-apart ChargeCalling m n s g = differ s
+action-apart ChargeCalled m n s g = differ s
+action-apart Stop m n s g = differ s
+action-apart SendIam m n s g = sent-apart (ascii "> IAM") m n
+action-apart SendAnm m n s g = sent-apart (ascii "> ANM") m n
+action-apart SendRel m n s g = released-apart m n (g refl)
+action-apart SendFac m n s g = sent-apart (ascii "> FAC") m n
 
 -- ---- The word of a number in the dump
 
@@ -321,8 +348,8 @@ module _ (a b : Number) (f : TypedNumber a) (g : TypedNumber b) (s t : List ℕ)
   by-kinds (none p z) (counted q) x d e = count-not-none b d
   by-kinds (digits p) (none q y) x d e = digits-not-none a p (sym d)
   by-kinds (digits p) (digits q) x d e =
-      let w = digits-apart (a .count) (b .count) (a .value) (b .value) (in-range-value a (left (inRange a) _ p))
-      (in-range-value b (left (inRange b) _ q)) d in
+      let w = digits-apart (a .count) (b .count) (a .value) (b .value) (in-range-value a (left (inRange a) _ p) .1)
+      (in-range-value b (left (inRange b) _ q) .1) d in
       (number-equal x (w .0) (w .1), e)
   by-kinds (digits p) (counted q) x d e = never-colon s (valueText (b .value) ++ t) m e
   by-kinds (counted p) (none q y) x d e = count-not-none a (sym d)

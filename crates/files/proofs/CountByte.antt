@@ -60,15 +60,17 @@ byte-small : (x : Nature) (count : ℕ) → count < 128 → countByte x count < 
 byte-small National count h = omega arith
 byte-small International count h = omega arith
 
-few-digits : (t : Bool) (value top : ℕ) → ltb value (pickℕ t top 0) ≡ true → t ≡ true
-few-digits true value top h = refl
+-- a value below ten to the count, of at most 15 digits: past 15 none is in range
+few-digits : (t : Bool) (value top : ℕ) → ltb value (pickℕ t top 0) ≡ true → (t ≡ true) × (value < top)
+few-digits true value top h = (refl, ltb-true value top h)
 few-digits false value top h = let l : value < 0 = ltb-true value 0 h in absurd (omega arith)
+
+pub in-range-value : (n : Number) → inRange n ≡ true → (leb (n .count) 15 ≡ true) × (n .value < 10 ^ n .count)
+in-range-value n h = few-digits (leb (n .count) 15) (n .value) (10 ^ n .count) (left _ (national (n .nature) || leb 1 (n .count)) h)
 
 pub there-small : (n : Number) → numberThere n ≡ true → n .count < 128
 there-small n h =
-    let l : n .count ≤ 15 =
-    leb-true (n .count) 15 (few-digits (leb (n .count) 15) (n .value) (10 ^ n .count) (left _ (national (n .nature) || leb 1 (n .count)) (left (inRange n) _ h))) in
-    omega arith
+    let l : n .count ≤ 15 = leb-true (n .count) 15 (in-range-value n (left (inRange n) _ h) .0) in omega arith
 
 -- one that is there where a part names it, and absent where none does
 pub named-small : (b : Bool) (n : Number) → numberOk b n ≡ true → n .count < 128

@@ -3,7 +3,8 @@
 -- a file shows), Bodies.antt (`readAt`, `recordOf`: a record's event and an event's record), Write.antt (`writtenOf`, `leftOf`),
 -- Typed.antt. Contracts.antt ties them to the contracts of the functions; the theorems about the rows are in crates/rows.
 -- What a host gets is spelled out in HostWrites.antt (`Writes`), Billed.antt (`Gets`, `Line`) and Same.antt (`Fitted`, `Wrote`, `Numbered`);
--- what two messages name, and what may follow a number, in Apart.antt (`NamedSame`, `Spaced`) and in `text` (`NoDigit`).
+-- which actions send a message, what two messages name, and what may follow a number, in Apart.antt (`isMessage`, `NamedSame`, `Spaced`)
+-- and in `text` (`NoDigit`).
 -- Assumes nothing.
 use mathlib.Core.List.{List, [], _∷_, _++_}
 use mathlib.Core.Logic.{_↔_, _⊎_}
@@ -18,6 +19,8 @@ use Rattle.rows.specs.History.{run}
 use Rattle.rows.specs.Step.{unopenedCall, stepOf}
 use Rattle.rows.specs.Telephone.{sameNumber}
 use Rattle.rows.specs.Valid.{numberThere, eventOk}
+use Rattle.rows.specs.declared.Act.{Act}
+use Rattle.rows.specs.declared.Act.the-variants.{SendRel}
 use Rattle.rows.specs.declared.Call.{Call}
 use Rattle.rows.specs.declared.Event.{Event}
 use Rattle.rows.specs.declared.Number.{Number}
@@ -30,7 +33,8 @@ use Rattle.files.specs.Dump.{dumpOf}
 use Rattle.files.specs.Fields.{numberFields, bytesOf}
 use Rattle.files.specs.Fit.{answers}
 use Rattle.files.specs.Listing.{listingOf}
-use Rattle.files.specs.Messages.{numberText, sentText, releasedText}
+use Rattle.files.specs.Lines.{actionText}
+use Rattle.files.specs.Messages.{numberText}
 use Rattle.files.specs.Shown.{whole, contentsOf, eventsOf, Shown, shownOf}
 use Rattle.files.specs.Typed.{AllBytes, TypedNumber, Typed, Writable, fileOf}
 use Rattle.files.specs.Words.{numberWord}
@@ -39,7 +43,7 @@ use Rattle.files.specs.declared.Read.{Read}
 use Rattle.files.specs.declared.Written.{Written}
 use Rattle.files.specs.declared.Written.the-variants.{Whole}
 use Rattle.files.proofs.Apart
-use Rattle.files.proofs.Apart.{NamedSame, Spaced}
+use Rattle.files.proofs.Apart.{isMessage, NamedSame, Spaced}
 use Rattle.files.proofs.Billed
 use Rattle.files.proofs.Billed.{Gets, Line}
 use Rattle.files.proofs.BothWays
@@ -170,19 +174,14 @@ pub number-in-a-line : (a b : Number) → numberThere a ≡ true → numberThere
     numberText a ++ s ≡ numberText b ++ t → (a ≡ b) × (s ≡ t)
 number-in-a-line = Apart.number-text
 
--- Any two answers, of any two calls to any two events, that send a message of the same name with the same component and the same parts:
--- the listing has the same line for both only if each number that the parts name is the same. No answer is left out, since every number
--- that is sent is in range.
-pub same-line-same-numbers : (c d : Call) (e f : Event) (name : List ℕ) → stepOf c e .note .component ≡ stepOf d f .note .component →
-    stepOf c e .note .parts ≡ stepOf d f .note .parts → sentText name (stepOf c e .note) ≡ sentText name (stepOf d f .note) →
+-- Any two answers, of any two calls to any two events, and an action that sends a message, of the same component and the same parts (and
+-- of the same cause, if it is a REL): the listing has the same line for both only if each number that the parts name is the same. No answer
+-- is left out, since every number that is sent is in range.
+pub same-line-same-numbers : (c d : Call) (e f : Event) (act : Act) → isMessage act ≡ true →
+    (act ≡ SendRel → stepOf c e .note .cause ≡ stepOf d f .note .cause) → stepOf c e .note .component ≡ stepOf d f .note .component →
+    stepOf c e .note .parts ≡ stepOf d f .note .parts → actionText (stepOf c e .note) act ≡ actionText (stepOf d f .note) act →
     NamedSame (stepOf c e .note) (stepOf d f .note)
 same-line-same-numbers = TwoRooms.lines-apart
-
--- A REL says its cause as well.
-pub same-release-same-numbers : (c d : Call) (e f : Event) → stepOf c e .note .cause ≡ stepOf d f .note .cause →
-    stepOf c e .note .component ≡ stepOf d f .note .component → stepOf c e .note .parts ≡ stepOf d f .note .parts →
-    releasedText (stepOf c e .note) ≡ releasedText (stepOf d f .note) → NamedSame (stepOf c e .note) (stepOf d f .note)
-same-release-same-numbers = TwoRooms.releases-apart
 
 -- In the dump every two numbers have different words, in range or not.
 pub same-word-same-number : (a b : Number) → TypedNumber a → TypedNumber b → (s t : List ℕ) → Spaced s → Spaced t →

@@ -7,10 +7,13 @@ use mathlib.Core.List.{List, [], _∷_, _++_, append-nil}
 use mathlib.Core.Logic.{_↔_}
 use Prim.Native.Nat.{ℕ}
 use native.Mathlib.Omega.{arith}
-use Rattle.rows.specs.Promises.{OneOf, this, later, PassedOn}
+use Rattle.rows.specs.Bill.{bitAt}
+use Rattle.rows.specs.Promises.{namedBy, PassedOn}
 use Rattle.rows.specs.Step.{ifInRange, ifCall, stepOf}
 use Rattle.rows.specs.Telephone.{absent, sameNumber}
-use Rattle.rows.specs.Valid.{inRange, numberThere, eventOk, validOf, placedOf, meteredOf, payingOf, numbersHeld}
+use Rattle.rows.specs.Valid.{inRange, numberThere, eventOk, validOf}
+use Rattle.rows.specs.declared.Act.{Act}
+use Rattle.rows.specs.declared.Act.the-variants.{SendRel}
 use Rattle.rows.specs.declared.Call.{Call}
 use Rattle.rows.specs.declared.Event.{Event}
 use Rattle.rows.specs.declared.Event.the-variants.{Opening, Ask, Received, FromAccess, Expiry, Time}
@@ -18,15 +21,16 @@ use Rattle.rows.specs.declared.Note.{Note}
 use Rattle.rows.specs.declared.Number.{Number}
 use Rattle.rows.proofs.Passed.{passed-on}
 use Rattle.rows.proofs.SameNumbers.{same-exactly, same-is-equal}
-use Rattle.rows.proofs.Truth.{both, left, right}
-use Rattle.meters.specs.Meters.{withinOf}
+use Rattle.rows.proofs.Stays.{good}
+use Rattle.rows.proofs.Truth.{left}
 use Rattle.files.specs.Bodies.{numberValues, headOf, recordOf}
 use Rattle.files.specs.Bytes.{leOf}
 use Rattle.files.specs.Fields.{numberFields, sizeOf, bytesOf}
-use Rattle.files.specs.Messages.{numberText, sentText, releasedText}
+use Rattle.files.specs.Lines.{actionText}
+use Rattle.files.specs.Messages.{numberText}
 use Rattle.files.specs.Typed.{TypedNumber}
 use Rattle.files.specs.Write.{natureWith, numberWith}
-use Rattle.files.proofs.Apart.{NamedSame, number-text, sent-apart, released-apart}
+use Rattle.files.proofs.Apart.{isMessage, NamedSame, number-text, action-apart}
 use Rattle.files.proofs.BothWays.{same-bytes-same-event}
 
 -- ---- text
@@ -40,17 +44,9 @@ text-apart a b p q = (
 
 -- ---- the line of a message that an answer sends
 
-one-of-two : (x y : Number) → OneOf x (absent ∷ y ∷ []) → inRange y ≡ true → inRange x ≡ true
-one-of-two x y this h = refl
-one-of-two x y (later this) h = h
-
-own-held : (c : Call) → validOf c ≡ true → inRange (c .side .own) ≡ true
-own-held c v =
-    left (inRange (c .side .own)) _
-    (right (payingOf (c .side .role) (c .stand .phase) (c .meters .payer)) _
-    (right (withinOf (c .meters)) _
-    (right (meteredOf (c .side .role) (c .stand .phase) (c .meters)) _
-    (right (placedOf (c .side .role) (c .stand .phase) (c .stand .rev)) _ v))))
+named-in-range : (b : Bool) (n : Number) → inRange n ≡ true → inRange (namedBy b n) ≡ true
+named-in-range true n h = h
+named-in-range false n h = refl
 
 abbrev SentInRange : Note → Type 0
 SentInRange m = (inRange (m .calling) ≡ true) × (inRange (m .called) ≡ true)
@@ -62,7 +58,11 @@ sent-in-range c e = by-call (validOf c) refl
     by-call : (b : Bool) → validOf c ≡ b → SentInRange (ifCall (validOf c) c e .note)
     by-call true v =
         let p = passed-on c e in
-        (one-of-two _ (c .side .own) (p .calling-sent) (own-held c v), one-of-two _ (c .side .own) (p .called-sent) (own-held c v))
+        let own : (t : Bool) → inRange (namedBy t (c .side .own)) ≡ true =
+        λ t. named-in-range t (c .side .own) (left (inRange (c .side .own)) (inRange (c .side .calling) && inRange (c .side .called)) (good c v .held)) in (
+          ap inRange (p .calling-sent) ∙ own (bitAt 16 (stepOf c e .note .parts)),
+          ap inRange (p .called-sent) ∙ own (bitAt 32 (stepOf c e .note .parts)),
+        )
     by-call false v = rw v (refl, refl)
 
 module _ (c d : Call) (e f : Event) where
@@ -72,21 +72,16 @@ module _ (c d : Call) (e f : Event) where
   abbrev b : Note
   b = stepOf d f .note
 
-  pub lines-apart : (name : List ℕ) → a .component ≡ b .component → a .parts ≡ b .parts → sentText name a ≡ sentText name b → NamedSame a b
-  lines-apart name x p h =
+  pub lines-apart : (act : Act) → isMessage act ≡ true → (act ≡ SendRel → a .cause ≡ b .cause) → a .component ≡ b .component
+      → a .parts ≡ b .parts → actionText a act ≡ actionText b act → NamedSame a b
+  lines-apart act m u x p h =
       let r = sent-in-range c e in
       let s = sent-in-range d f in
-      sent-apart name a b x p ((λ _. r .0), (λ _. r .1)) ((λ _. s .0), (λ _. s .1)) h
-
-  pub releases-apart : a .cause ≡ b .cause → a .component ≡ b .component → a .parts ≡ b .parts → releasedText a ≡ releasedText b → NamedSame a b
-  releases-apart u x p h =
-      let r = sent-in-range c e in
-      let s = sent-in-range d f in
-      released-apart a b u x p ((λ _. r .0), (λ _. r .1)) ((λ _. s .0), (λ _. s .1)) h
+      action-apart act a b m u x p ((λ _. r .0), (λ _. r .1)) ((λ _. s .0), (λ _. s .1)) h
 
 -- ---- bytes
 
--- the number that an own user's request names
+-- a number that an event brings
 abbrev asked : Event → Number
 asked (Opening role flags own) = own
 asked (Ask item called) = called

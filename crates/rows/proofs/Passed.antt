@@ -1,40 +1,47 @@
 -- NUMBERS ARE PASSED ON WHOLE: one that is sent is the own number of the call, and one that is held was held, or the event brought it, each
--- with its nature, its count and its value. So two rooms that share their digits stay two rooms.
+-- with its nature, its count and its value. So two rooms that share their digits stay two rooms. An opening's own number and the number
+-- that a caller asks for are held.
 -- Assumes nothing.
 use mathlib.Core.Bool.{Bool, true, false, _||_, not}
 use mathlib.Core.List.{List, [], _∷_}
 use mathlib.Core.Logic.{_⊎_, inl, inr}
-use mathlib.Core.Path.{_≡_, refl, subst, _∙_}
+use mathlib.Core.Path.{_≡_, refl, sym, ap, subst, _∙_}
 use Prim.Native.Nat.{ℕ}
-use lib.Dec.{leb}
+use lib.Dec.{leb, eqb}
+use borrow.Author.Tests.{eq-eqb}
 use Rattle.meters.specs.Meters.{changeOf}
 use Rattle.meters.specs.declared.Metered.{Metered}
 use Rattle.meters.specs.declared.Metered.the-variants.{Done, NoPayer, TooMuch}
-use Rattle.rows.specs.Perform.{refusedOf, ifThere, orHeld, sideOf, settledOf, performIf, appliesOf}
-use Rattle.rows.specs.Promises.{OneOf, this, later, ownIn, callingIn, calledIn, PassedOn, HeldOr, Keeps, isOpening}
+use Rattle.rows.specs.Perform.{refusedOf, ifThere, orHeld, openedOf, standOf, sideOf, settledOf, performIf, appliesOf}
+use Rattle.rows.specs.Promises.{OneOf, this, later, ownIn, callingIn, calledIn, namedBy, PassedOn, HeldOr, Keeps, OnlyOwn, isOpening}
 use Rattle.rows.specs.Read.{bit, readOf}
 use Rattle.rows.specs.Step.{ifInRange, ifCall, stepOf}
 use Rattle.rows.specs.Telephone.{absent}
-use Rattle.rows.specs.Valid.{eventOk, validOf}
+use Rattle.rows.specs.Valid.{inRange, numberThere, eventOk, validOf}
 use Rattle.rows.specs.declared.Call.{Call}
 use Rattle.rows.specs.declared.Event.{Event}
 use Rattle.rows.specs.declared.Event.the-variants.{Opening, Ask, Received, FromAccess, Expiry, Time}
+use Rattle.rows.specs.declared.Kind.{Kind}
+use Rattle.rows.specs.declared.Kind.the-variants.{Opens, Asks, Iam, Answer, Rel, Fac, Tells, Expires, Passes}
 use Rattle.rows.specs.declared.Number.{Number}
+use Rattle.rows.specs.declared.Outcome.{Outcome}
+use Rattle.rows.specs.declared.Phase.{Phase}
+use Rattle.rows.specs.declared.Phase.the-variants.{Unopened, Null, Setup, Answered, Cleared}
 use Rattle.rows.specs.declared.Plan.{Plan}
 use Rattle.rows.specs.declared.Reading.{Reading}
 use Rattle.rows.specs.declared.Register.{Register}
 use Rattle.rows.specs.declared.Register.the-variants.{AsHeld, FromOpening, CalledNumber, CallingNumber}
 use Rattle.rows.specs.declared.Side.{Side}
 use Rattle.rows.proofs.Answers.{planFor}
-use Rattle.rows.proofs.Found.{Test, holds, stepped}
+use Rattle.rows.proofs.Found.{Test, implies, so, holds, stepped}
 use Rattle.rows.proofs.Phases.{isOpens, opens}
-use Rattle.rows.proofs.Truth.{differ, or-none}
+use Rattle.rows.proofs.Truth.{differ, right, or-none}
 
 -- ---- what is sent, what is held
 
-sent : (b : Bool) (own : Number) → OneOf (ifThere b own) (absent ∷ own ∷ [])
-sent true own = later this
-sent false own = this
+sent : (b : Bool) (own : Number) → ifThere b own ≡ namedBy b own
+sent true own = refl
+sent false own = refl
 
 held : (b : Bool) (n h : Number) → OneOf (orHeld b n h) (h ∷ n ∷ absent ∷ [])
 held true n h = later this
@@ -88,7 +95,7 @@ called-read (Time s) = refl
 
 module _ (c : Call) (e : Event) where
   refused : (n : ℕ) → PassedOn c e (refusedOf n c)
-  refused n = record { calling-sent = this; called-sent = this; own-held = this; calling-held = this; called-held = this }
+  refused n = record { calling-sent = refl; called-sent = refl; own-held = this; calling-held = this; called-held = this }
 
   settled : (m : Metered) (p : Plan) → PassedOn c e (settledOf m c p (readOf e))
   settled (Done after) p =
@@ -175,3 +182,79 @@ keeps c e h =
   where
     stays : (n : ℕ) → Keeps c e (refusedOf n c)
     stays n = record { own = refl; calling = inl refl; called = inl refl }
+
+-- ---- an opening and a caller's request register
+
+abbrev isNull : Phase → Bool
+isNull Unopened = false
+isNull Null = true
+isNull Setup = false
+isNull Answered = false
+isNull Cleared = false
+
+abbrev isSetup : Phase → Bool
+isSetup Unopened = false
+isSetup Null = false
+isSetup Setup = true
+isSetup Answered = false
+isSetup Cleared = false
+
+abbrev isAsks : Kind → Bool
+isAsks Opens = false
+isAsks Asks = true
+isAsks Iam = false
+isAsks Answer = false
+isAsks Rel = false
+isAsks Fac = false
+isAsks Tells = false
+isAsks Expires = false
+isAsks Passes = false
+
+abbrev registersCalled : Register → Bool
+registersCalled AsHeld = false
+registersCalled FromOpening = false
+registersCalled CalledNumber = true
+registersCalled CallingNumber = false
+
+-- what is accepted of an opening begins anew, and a request that leads from NULL to SETUP registers the number asked for
+abbrev openingsAnew : Test
+openingsAnew r now k p = implies (eqb (p .number) 0) (implies (isOpens k) (anew (p .register)))
+
+abbrev requestsHeld : Test
+requestsHeld r now k p =
+    implies (isNull (now .phase)) (implies (isSetup (standOf (p .next) now .phase)) (implies (isAsks k) (registersCalled (p .register))))
+
+opened-own : (x : Register) (s : Side) (r : Reading) → anew x ≡ true → sideOf x s r ≡ openedOf r
+opened-own AsHeld s r h = differ h
+opened-own FromOpening s r h = refl
+opened-own CalledNumber s r h = differ h
+opened-own CallingNumber s r h = differ h
+
+asked-held : (x : Register) (s : Side) (r : Reading) → registersCalled x ≡ true → leb 1 (r .called .count) ≡ true → sideOf x s r .called ≡ r .called
+asked-held AsHeld s r h l = differ h
+asked-held FromOpening s r h l = differ h
+asked-held CalledNumber s r h l = ap (λ (b : Bool). orHeld b (r .called) (s .called)) l
+asked-held CallingNumber s r h l = differ h
+
+-- a refusal is not accepted
+not-accepted : {A : Type 0} (n : ℕ) → eqb n 0 ≡ false → n ≡ 0 → A
+not-accepted n f z = differ (sym f ∙ eq-eqb n 0 z)
+
+pub opening-registers : (c : Call) (r f : ℕ) (n : Number) → stepOf c (Opening r f n) .number ≡ 0 → OnlyOwn n (stepOf c (Opening r f n) .call)
+opening-registers c r f n =
+    let e : Event = Opening r f n in
+    stepped (λ (o : Outcome). o .number ≡ 0 → OnlyOwn n (o .call)) c e (λ v. not-accepted 9 refl) (λ k v p q. not-accepted k p)
+    (λ m w z.
+    let g = opened-own (planFor c e .register) (c .side) (readOf e) (so _ _ (holds openingsAnew (λ e t a b. refl) c e) (w .row)) in
+    record { own = ap (λ (s : Side). s .own) g; calling = ap (λ (s : Side). s .calling) g; called = ap (λ (s : Side). s .called) g })
+
+pub request-registers : (c : Call) (q : ℕ) (n : Number) → c .stand .phase ≡ Null → numberThere n ≡ true →
+    stepOf c (Ask q n) .call .stand .phase ≡ Setup → stepOf c (Ask q n) .call .side .called ≡ n
+request-registers c q n h l =
+    let e : Event = Ask q n in
+    stepped (λ (o : Outcome). o .call .stand .phase ≡ Setup → o .call .side .called ≡ n) c e (λ v. stays) (λ k v p q. stays)
+    (λ m w z. asked-held (planFor c e .register) (c .side) (readOf e)
+    (so _ _ (so _ _ (holds requestsHeld (λ e t a b. refl) c e) (ap isNull h)) (ap isSetup z)) (right (inRange n) _ l))
+  where
+    stays : {A : Type 0} → c .stand .phase ≡ Setup → A
+    stays z = differ (sym (ap isNull z) ∙ ap isNull h)

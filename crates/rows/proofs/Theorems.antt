@@ -20,7 +20,7 @@ use Rattle.rows.specs.Promises.{isFacility, tellsRunning, asksReversal, 
 use Rattle.rows.specs.Promises.{requestHasRow, invokeHasRow}
 use Rattle.rows.specs.Promises.{openingThere, secondsThere, noDuration}
 use Rattle.rows.specs.Promises.{reversals, Extends, OtherDigits, Redialled, AllRedialled, Renumbered, SameAnswer, numbers}
-use Rattle.rows.specs.Promises.{takesEffect, InEffect, PassedOn, Keeps}
+use Rattle.rows.specs.Promises.{takesEffect, InEffect, PassedOn, Keeps, OnlyOwn}
 use Rattle.rows.specs.Step.{unopenedCall, stepOf}
 use Rattle.rows.specs.Telephone.{absent, sameNumber}
 use Rattle.rows.specs.Valid.{inRange, numberThere, validOf, eventOk}
@@ -30,7 +30,7 @@ use Rattle.rows.specs.declared.Event.the-variants.{Opening, Ask, Receive
 use Rattle.rows.specs.declared.Message.{Message}
 use Rattle.rows.specs.declared.Nature.{Nature}
 use Rattle.rows.specs.declared.Number.{Number}
-use Rattle.rows.specs.declared.Phase.the-variants.{Answered, Cleared}
+use Rattle.rows.specs.declared.Phase.the-variants.{Null, Setup, Answered, Cleared}
 use Rattle.rows.specs.declared.RevState.the-variants.{Active}
 use Rattle.rows.specs.declared.Role.the-variants.{Destination}
 use Rattle.rows.proofs.Clearing
@@ -272,9 +272,19 @@ nature-decides-nothing = Digits.either-nature
 
 -- ---- Telephone numbers (02 #103)
 
--- A number is passed on whole, with its nature: what is sent is the own number, and what is held was held or was brought by the event.
+-- A number is passed on whole, with its nature: what is sent is the own number, wherever a part names one, and what is held was held or
+-- was brought by the event.
 pub numbers-passed-on : (c : Call) (e : Event) → PassedOn c e (stepOf c e)
 numbers-passed-on = Passed.passed-on
+
+-- An opening that is accepted registers the number that it brings, and the call holds no other; a request that leads from NULL to SETUP
+-- registers the number that it asks for.
+pub opening-registers : (c : Call) (r f : ℕ) (n : Number) → stepOf c (Opening r f n) .number ≡ 0 → OnlyOwn n (stepOf c (Opening r f n) .call)
+opening-registers = Passed.opening-registers
+
+pub request-registers : (c : Call) (q : ℕ) (n : Number) → c .stand .phase ≡ Null → numberThere n ≡ true →
+    stepOf c (Ask q n) .call .stand .phase ≡ Setup → stepOf c (Ask q n) .call .side .called ≡ n
+request-registers = Passed.request-registers
 
 -- Without an opening the own number stays, and no number that is held is forgotten: another takes its place only if the event brings it.
 pub numbers-kept : (c : Call) (e : Event) → isOpening e ≡ false → Keeps c e (stepOf c e)

@@ -19,6 +19,7 @@ use Rattle.rows.specs.declared.Phase.the-variants.{Setup, Answered}
 use Rattle.rows.specs.declared.RevState.{RevState}
 use Rattle.rows.specs.declared.RevState.the-variants.{Idle, WaitAnswer, Active}
 
+-- abroad: the bill does not look at it
 abbrev room : Number
 room = record { nature = International; count = 7; value = 5550123 }
 

@@ -264,10 +264,16 @@ calledIn (FromAccess a n) = absent
 calledIn Expiry = absent
 calledIn (Time s) = absent
 
--- of an answer: what is sent is the own number; what is held was held, or the event brought it, or is none
+-- a number where its part is named, and none where it is not
+abbrev pub namedBy : Bool → Number → Number
+namedBy true n = n
+namedBy false n = absent
+
+-- of an answer: what is sent is the own number, where part 16 or part 32 names it; what is held was held, or the event brought it, or is
+-- none
 pub record PassedOn (c : Call) (e : Event) (o : Outcome) : Type 0 where
-  pub calling-sent : OneOf (o .note .calling) (absent ∷ c .side .own ∷ [])
-  pub called-sent : OneOf (o .note .called) (absent ∷ c .side .own ∷ [])
+  pub calling-sent : o .note .calling ≡ namedBy (bitAt 16 (o .note .parts)) (c .side .own)
+  pub called-sent : o .note .called ≡ namedBy (bitAt 32 (o .note .parts)) (c .side .own)
   pub own-held : OneOf (o .call .side .own) (c .side .own ∷ ownIn e ∷ [])
   pub calling-held : OneOf (o .call .side .calling) (c .side .calling ∷ callingIn e ∷ absent ∷ [])
   pub called-held : OneOf (o .call .side .called) (c .side .called ∷ calledIn e ∷ absent ∷ [])
@@ -281,6 +287,12 @@ pub record Keeps (c : Call) (e : Event) (o : Outcome) : Type 0 where
   pub own : o .call .side .own ≡ c .side .own
   pub calling : HeldOr (o .call .side .calling) (c .side .calling) (callingIn e)
   pub called : HeldOr (o .call .side .called) (c .side .called) (calledIn e)
+
+-- the numbers of a call that has just been opened with n
+pub record OnlyOwn (n : Number) (c : Call) : Type 0 where
+  pub own : c .side .own ≡ n
+  pub calling : c .side .calling ≡ absent
+  pub called : c .side .called ≡ absent
 
 -- ---- Other telephone numbers: proofs/Digits.antt
 

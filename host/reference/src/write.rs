@@ -1,4 +1,4 @@
-//! The model's own writer of events, from docs/FORMAT.md and 02 #102. It shares no code with the reader of the model, and takes fields
+//! The model's own writer of events, from docs/FORMAT.md and 02 #102 and #103. It shares no code with the reader of the model, and takes fields
 //! as a host gives them, in range or not.
 
 /// What a telephone number is, as 02 #103 adds it.
@@ -29,7 +29,7 @@ pub struct Number {
 }
 
 impl Number {
-    /// "Where a number is not wanted it is nine zero bytes."
+    /// "nine zero bytes for 2 and 3": where a number is not wanted.
     pub const ABSENT: Number = Number::national(0, 0);
 
     pub const fn national(count: u8, value: u64) -> Number {
@@ -40,8 +40,7 @@ impl Number {
         Number { nature: Nature::International, count, value }
     }
 
-    /// "a count of digits, 1 to 15, and 8 bytes of value, below ten to the count": the value has no more digits than that. The nature is
-    /// either.
+    /// "the count of digits, 1 to 15"; "The value is below ten to the count": it has no more digits than that. The nature is either.
     pub fn in_range(self) -> bool {
         self.count <= 15 && self.value.to_string().len() <= usize::from(self.count)
     }
