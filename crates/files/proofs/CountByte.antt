@@ -4,7 +4,7 @@ use mathlib.Core.Path.{_≡_, refl, sym, ap, _∙_}
 use mathlib.Core.Bool.{Bool, true, false, _&&_, _||_}
 use Prim.Native.Nat.{ℕ, _+_, _^_, _≤_, _<_, _%_}
 use native.Mathlib.Omega.{arith}
-use lib.Dec.{ltb, leb, eqb}
+use lib.Dec.{T, ltb, leb, eqb}
 use borrow.Author.Tests.{ltb-true, leb-true, eqb-true}
 use Rattle.text.proofs.Cases.{yes-lt, no-lt, both-lt}
 use Rattle.rows.specs.Telephone.{national}
@@ -13,9 +13,11 @@ use Rattle.rows.specs.Valid.{numberIf as numberOk}
 use Rattle.rows.specs.declared.Nature.{Nature}
 use Rattle.rows.specs.declared.Nature.the-variants.{National, International}
 use Rattle.rows.specs.declared.Number.{Number}
+use Rattle.rows.proofs.Below.{below}
 use Rattle.rows.proofs.SameNumbers.{number-equal}
 use Rattle.rows.proofs.Truth.{differ, left, or-none, right}
 use Rattle.files.specs.Bodies.{natureOf, countOf, countByte, numberBy}
+use Rattle.files.specs.Typed.{TypedNumber}
 
 -- ---- from the byte to its halves and back
 
@@ -71,6 +73,21 @@ in-range-value n h = few-digits (leb (n .count) 15) (n .value) (10 ^ n .count) (
 pub there-small : (n : Number) → numberThere n ≡ true → n .count < 128
 there-small n h =
     let l : n .count ≤ 15 = leb-true (n .count) 15 (in-range-value n (left (inRange n) _ h) .0) in omega arith
+
+-- a number that is there fits its types
+digits-fit : (count : ℕ) → count ≤ 15 → 10 ^ count ≤ 10 ^ 15
+digits-fit count h = leb-true (10 ^ count) (10 ^ 15) (told _ (below (λ (k : ℕ). leb (10 ^ k) (10 ^ 15)) 16 tt count (omega arith)))
+  where
+    told : (b : Bool) → T b → b ≡ true
+    told true t = refl
+    told false t = absurd t
+
+pub there-typed : (n : Number) → numberThere n ≡ true → TypedNumber n
+there-typed n h =
+    let (l, v) = in-range-value n (left (inRange n) _ h) in
+    let c : n .count ≤ 15 = leb-true (n .count) 15 l in
+    let d : 10 ^ n .count ≤ 10 ^ 15 = digits-fit (n .count) c in
+    (omega arith, omega arith)
 
 -- one that is there where a part names it, and absent where none does
 pub named-small : (b : Bool) (n : Number) → numberOk b n ≡ true → n .count < 128

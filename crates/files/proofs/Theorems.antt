@@ -189,7 +189,7 @@ pub same-word-same-number : (a b : Number) → TypedNumber a → TypedNumber b �
 same-word-same-number = Apart.number-word
 
 -- In a record they have the same bytes exactly if they are the same; of whole records `same-bytes-same-event` says it.
-pub same-bytes-same-number : (a b : Number) → numberThere a ≡ true → TypedNumber a → numberThere b ≡ true → TypedNumber b →
+pub same-bytes-same-number : (a b : Number) → numberThere a ≡ true → numberThere b ≡ true →
     (bytesOf (numberFields 1) (numberValues a) ≡ bytesOf (numberFields 1) (numberValues b)) ↔ (sameNumber a b ≡ true)
 same-bytes-same-number = TwoRooms.bytes-apart
 

@@ -34,7 +34,7 @@ use Rattle.rows.specs.declared.Register.the-variants.{AsHeld, FromOpenin
 use Rattle.rows.specs.declared.Side.{Side}
 use Rattle.rows.proofs.Answers.{planFor}
 use Rattle.rows.proofs.Found.{Test, implies, so, holds, stepped}
-use Rattle.rows.proofs.Phases.{isOpens, opens}
+use Rattle.rows.proofs.Phases.{isOpens, opens, isSetup}
 use Rattle.rows.proofs.Truth.{differ, right, or-none}
 
 -- ---- what is sent, what is held
@@ -191,13 +191,6 @@ isNull Null = true
 isNull Setup = false
 isNull Answered = false
 isNull Cleared = false
-
-abbrev isSetup : Phase → Bool
-isSetup Unopened = false
-isSetup Null = false
-isSetup Setup = true
-isSetup Answered = false
-isSetup Cleared = false
 
 abbrev isAsks : Kind → Bool
 isAsks Opens = false
