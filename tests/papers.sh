@@ -9,7 +9,7 @@ if ! command -v python3 >/dev/null; then
 fi
 mkdir -p target
 if ! tests/mutants --papers "$@" >target/papers.log 2>&1; then
-    grep -v '^| Edits of' target/papers.log | grep -E 'expected:|should fall:|not decided|^mutants: ' || cat target/papers.log
+    grep -v '^| Edits of' target/papers.log | grep -E 'expected:|should fall:|not decided|its old text|^mutants: ' || cat target/papers.log
     echo "papers: a wrong definition is not refused as it should be: target/papers.log"
     exit 1
 fi

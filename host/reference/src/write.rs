@@ -1,5 +1,5 @@
-//! The model's own writer of events, from docs/FORMAT.md and 02 #102 and #103. It shares no code with the reader of the model, and takes fields
-//! as a host gives them, in range or not.
+//! The model's own writer of events, from docs/FORMAT.md and 02 #102 and #103. It shares no code with the reader of the model, and takes
+//! fields as a host gives them, in range or not.
 
 /// What a telephone number is, as 02 #103 adds it.
 #[derive(Clone, Copy, PartialEq, Eq, Debug)]
