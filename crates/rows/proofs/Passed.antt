@@ -13,7 +13,8 @@ use Rattle.meters.specs.Meters.{changeOf}
 use Rattle.meters.specs.declared.Metered.{Metered}
 use Rattle.meters.specs.declared.Metered.the-variants.{Done, NoPayer, TooMuch}
 use Rattle.rows.specs.Perform.{refusedOf, ifThere, orHeld, openedOf, standOf, sideOf, settledOf, performIf, appliesOf}
-use Rattle.rows.specs.Promises.{OneOf, this, later, ownIn, callingIn, calledIn, namedBy, PassedOn, HeldOr, Keeps, OnlyOwn, isOpening}
+use Rattle.rows.specs.Promises.{OneOf, this, later, ownIn, callingIn, calledIn, namedBy, PassedOn, HeldOr, Keeps, OnlyOwn, HoldsOrClears}
+use Rattle.rows.specs.Promises.{isOpening}
 use Rattle.rows.specs.Read.{bit, readOf}
 use Rattle.rows.specs.Step.{ifInRange, ifCall, stepOf}
 use Rattle.rows.specs.Telephone.{absent}
@@ -34,7 +35,7 @@ use Rattle.rows.specs.declared.Register.the-variants.{AsHeld, FromOpenin
 use Rattle.rows.specs.declared.Side.{Side}
 use Rattle.rows.proofs.Answers.{planFor}
 use Rattle.rows.proofs.Found.{Test, implies, so, holds, stepped}
-use Rattle.rows.proofs.Phases.{isOpens, opens, isSetup}
+use Rattle.rows.proofs.Phases.{isOpens, opens}
 use Rattle.rows.proofs.Truth.{differ, right, or-none}
 
 -- ---- what is sent, what is held
@@ -209,13 +210,22 @@ registersCalled FromOpening = false
 registersCalled CalledNumber = true
 registersCalled CallingNumber = false
 
--- what is accepted of an opening begins anew, and a request that leads from NULL to SETUP registers the number asked for
+-- the call has cleared, or it is being set up and the number asked for is registered
+abbrev registersOrClears : Phase → Bool → Bool
+registersOrClears Unopened b = false
+registersOrClears Null b = false
+registersOrClears Setup b = b
+registersOrClears Answered b = false
+registersOrClears Cleared b = true
+
+-- what is accepted of an opening begins anew, and a request that is accepted in NULL registers the number asked for, or clears the call
 abbrev openingsAnew : Test
 openingsAnew r now k p = implies (eqb (p .number) 0) (implies (isOpens k) (anew (p .register)))
 
 abbrev requestsHeld : Test
 requestsHeld r now k p =
-    implies (isNull (now .phase)) (implies (isSetup (standOf (p .next) now .phase)) (implies (isAsks k) (registersCalled (p .register))))
+    implies (isNull (now .phase))
+    (implies (eqb (p .number) 0) (implies (isAsks k) (registersOrClears (standOf (p .next) now .phase) (registersCalled (p .register)))))
 
 opened-own : (x : Register) (s : Side) (r : Reading) → anew x ≡ true → sideOf x s r ≡ openedOf r
 opened-own AsHeld s r h = differ h
@@ -241,13 +251,20 @@ opening-registers c r f n =
     let g = opened-own (planFor c e .register) (c .side) (readOf e) (so _ _ (holds openingsAnew (λ e t a b. refl) c e) (w .row)) in
     record { own = ap (λ (s : Side). s .own) g; calling = ap (λ (s : Side). s .calling) g; called = ap (λ (s : Side). s .called) g })
 
-pub request-registers : (c : Call) (q : ℕ) (n : Number) → c .stand .phase ≡ Null → numberThere n ≡ true →
-    stepOf c (Ask q n) .call .stand .phase ≡ Setup → stepOf c (Ask q n) .call .side .called ≡ n
+holds-or-clears : (p : Phase) (b : Bool) (m n : Number) → registersOrClears p b ≡ true → (b ≡ true → m ≡ n) → HoldsOrClears n p m
+holds-or-clears Unopened b m n h f = differ h
+holds-or-clears Null b m n h f = differ h
+holds-or-clears Setup b m n h f = inr (refl, f h)
+holds-or-clears Answered b m n h f = differ h
+holds-or-clears Cleared b m n h f = inl refl
+
+pub request-registers : (c : Call) (q : ℕ) (n : Number) → c .stand .phase ≡ Null → numberThere n ≡ true → stepOf c (Ask q n) .number ≡ 0 →
+    HoldsOrClears n (stepOf c (Ask q n) .call .stand .phase) (stepOf c (Ask q n) .call .side .called)
 request-registers c q n h l =
     let e : Event = Ask q n in
-    stepped (λ (o : Outcome). o .call .stand .phase ≡ Setup → o .call .side .called ≡ n) c e (λ v. stays) (λ k v p q. stays)
-    (λ m w z. asked-held (planFor c e .register) (c .side) (readOf e)
-    (so _ _ (so _ _ (holds requestsHeld (λ e t a b. refl) c e) (ap isNull h)) (ap isSetup z)) (right (inRange n) _ l))
-  where
-    stays : {A : Type 0} → c .stand .phase ≡ Setup → A
-    stays z = differ (sym (ap isNull z) ∙ ap isNull h)
+    let x = planFor c e .register in
+    stepped (λ (o : Outcome). o .number ≡ 0 → HoldsOrClears n (o .call .stand .phase) (o .call .side .called)) c e
+    (λ v. not-accepted 9 refl) (λ k v p q. not-accepted k p)
+    (λ m w z. holds-or-clears (standOf (planFor c e .next) (c .stand) .phase) (registersCalled x) (sideOf x (c .side) (readOf e) .called) n
+    (so _ _ (so _ _ (holds requestsHeld (λ e t a b. refl) c e) (ap isNull h)) (w .row))
+    (λ r. asked-held x (c .side) (readOf e) r (right (inRange n) _ l)))

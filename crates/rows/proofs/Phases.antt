@@ -198,7 +198,7 @@ awaited Destination WaitSetupConf k = isTells k
 awaited Destination WaitActiveConf k = false
 awaited Destination WaitCalled k = false
 
-abbrev pub isSetup : Phase → Bool
+abbrev isSetup : Phase → Bool
 isSetup Unopened = false
 isSetup Null = false
 isSetup Setup = true

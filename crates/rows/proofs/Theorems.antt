@@ -20,7 +20,7 @@ use Rattle.rows.specs.Promises.{isFacility, tellsRunning, asksReversal, 
 use Rattle.rows.specs.Promises.{requestHasRow, invokeHasRow}
 use Rattle.rows.specs.Promises.{openingThere, secondsThere, noDuration}
 use Rattle.rows.specs.Promises.{reversals, Extends, OtherDigits, Redialled, AllRedialled, Renumbered, SameAnswer, numbers}
-use Rattle.rows.specs.Promises.{takesEffect, InEffect, PassedOn, Keeps, OnlyOwn}
+use Rattle.rows.specs.Promises.{takesEffect, InEffect, PassedOn, Keeps, OnlyOwn, HoldsOrClears}
 use Rattle.rows.specs.Step.{unopenedCall, stepOf}
 use Rattle.rows.specs.Telephone.{absent, sameNumber}
 use Rattle.rows.specs.Valid.{inRange, numberThere, validOf, eventOk}
@@ -30,7 +30,7 @@ use Rattle.rows.specs.declared.Event.the-variants.{Opening, Ask, Receive
 use Rattle.rows.specs.declared.Message.{Message}
 use Rattle.rows.specs.declared.Nature.{Nature}
 use Rattle.rows.specs.declared.Number.{Number}
-use Rattle.rows.specs.declared.Phase.the-variants.{Null, Setup, Answered, Cleared}
+use Rattle.rows.specs.declared.Phase.the-variants.{Null, Answered, Cleared}
 use Rattle.rows.specs.declared.RevState.the-variants.{Active}
 use Rattle.rows.specs.declared.Role.the-variants.{Destination}
 use Rattle.rows.proofs.Clearing
@@ -277,13 +277,13 @@ nature-decides-nothing = Digits.either-nature
 pub numbers-passed-on : (c : Call) (e : Event) → PassedOn c e (stepOf c e)
 numbers-passed-on = Passed.passed-on
 
--- An opening that is accepted registers the number that it brings, and the call holds no other; a request that leads from NULL to SETUP
--- registers the number that it asks for.
+-- An opening that is accepted registers the number that it brings, and the call holds no other; a request that is accepted in NULL leads to
+-- SETUP and registers the number that it asks for, or it clears the call.
 pub opening-registers : (c : Call) (r f : ℕ) (n : Number) → stepOf c (Opening r f n) .number ≡ 0 → OnlyOwn n (stepOf c (Opening r f n) .call)
 opening-registers = Passed.opening-registers
 
-pub request-registers : (c : Call) (q : ℕ) (n : Number) → c .stand .phase ≡ Null → numberThere n ≡ true →
-    stepOf c (Ask q n) .call .stand .phase ≡ Setup → stepOf c (Ask q n) .call .side .called ≡ n
+pub request-registers : (c : Call) (q : ℕ) (n : Number) → c .stand .phase ≡ Null → numberThere n ≡ true → stepOf c (Ask q n) .number ≡ 0 →
+    HoldsOrClears n (stepOf c (Ask q n) .call .stand .phase) (stepOf c (Ask q n) .call .side .called)
 request-registers = Passed.request-registers
 
 -- Without an opening the own number stays, and no number that is held is forgotten: another takes its place only if the event brings it.

@@ -294,6 +294,10 @@ pub record OnlyOwn (n : Number) (c : Call) : Type 0 where
   pub calling : c .side .calling ≡ absent
   pub called : c .side .called ≡ absent
 
+-- of a request in NULL: the phase is SETUP and the call holds the number n that was asked for, or the call has cleared
+abbrev pub HoldsOrClears : Number → Phase → Number → Type 0
+HoldsOrClears n phase held = (phase ≡ Cleared) ⊎ ((phase ≡ Setup) × (held ≡ n))
+
 -- ---- Other telephone numbers: proofs/Digits.antt
 
 -- the same number, or two that are both there and in range, each of either nature
