@@ -1,9 +1,11 @@
-// The three meters of one call and who pays now. All by value: a change gives back the meters that follow.
-// A meter counts seconds. Nothing here knows of roles, messages or prices.
+// The three meters of one call, who pays now, and the answered total. All by value: a change gives back the meters that follow.
+// A meter counts the seconds that somebody pays; the total counts those that passed in the answered call, whoever pays them, so that
+// neither a Duration received nor a move between meters touches it. Nothing here knows of roles, messages or prices.
 ghost use mathlib.Core.Path.{_≡_};
-ghost use Rattle.meters.specs.Meters.{newOf, withinOf, paidByOf, addsOf, giveOf, entireOf, receivedOf, changeOf};
+ghost use Rattle.meters.specs.Meters.{newOf, withinOf, addsUpOf, paidByOf, addsOf, chargeOf, lastsOf, giveOf, entireOf, receivedOf};
+ghost use Rattle.meters.specs.Meters.{changeOf};
 
-// 01, number 2: no sum of meters, and no Duration that a row uses, may pass this many seconds.
+// 01, number 2: no sum of meters, and no Duration that a row uses, may pass this many seconds; 02 #104: nor may the total.
 const LIMIT: u64 = 31536000;
 
 // Whose meter runs.
@@ -19,6 +21,7 @@ pub struct Meters {
     pub called: u32,
     pub far: u32,
     pub payer: Payer,
+    pub total: u32,
 }
 
 // What a row may do to the meters.
@@ -51,14 +54,23 @@ impl Meters {
             called: 0,
             far: 0,
             payer: Payer::Nobody,
+            total: 0,
         }
     }
 
-    // The sum of the meters is within the limit.
+    // The sum of the meters and the total are within the limit.
     pub fn within(self) -> bool
         ensures { λ out. ⌜ out ≡ withinOf self ⌝ }
     {
-        (self.caller as u64) + (self.called as u64) + (self.far as u64) <= LIMIT
+        let sum = (self.caller as u64) + (self.called as u64) + (self.far as u64);
+        (sum <= LIMIT) & ((self.total as u64) <= LIMIT)
+    }
+
+    // The three meters add up to the total.
+    pub fn adds_up(self) -> bool
+        ensures { λ out. ⌜ out ≡ addsUpOf self ⌝ }
+    {
+        (self.caller as u64) + (self.called as u64) + (self.far as u64) == (self.total as u64)
     }
 
     // Charging starts, goes over to another payer, or stops: the seconds stay where they are.
@@ -70,6 +82,7 @@ impl Meters {
             called: self.called,
             far: self.far,
             payer: payer,
+            total: self.total,
         }
     }
 
@@ -86,6 +99,7 @@ impl Meters {
                 called: self.called + called,
                 far: self.far + far,
                 payer: payer,
+                total: self.total,
             })
         } else {
             Metered::TooMuch
@@ -93,8 +107,8 @@ impl Meters {
     }
 
     // The payer's meter takes all of the seconds.
-    pub fn give(self, seconds: u32) -> Metered
-        ensures { λ out. ⌜ out ≡ giveOf self seconds ⌝ }
+    fn charge(self, seconds: u32) -> Metered
+        ensures { λ out. ⌜ out ≡ chargeOf self seconds ⌝ }
     {
         let payer = self.payer;
         match payer {
@@ -102,6 +116,36 @@ impl Meters {
             Payer::Caller => self.adds(seconds, 0, 0),
             Payer::Called => self.adds(0, seconds, 0),
             Payer::Far => self.adds(0, 0, seconds),
+        }
+    }
+
+    // The answered call has lasted so many seconds more, unless its total would then pass the limit. Only here does the total grow.
+    fn lasts(self, seconds: u32) -> Metered
+        ensures { λ out. ⌜ out ≡ lastsOf self seconds ⌝ }
+    {
+        let payer = self.payer;
+        if (self.total as u64) + (seconds as u64) <= LIMIT {
+            Metered::Done(Meters {
+                caller: self.caller,
+                called: self.called,
+                far: self.far,
+                payer: payer,
+                total: self.total + seconds,
+            })
+        } else {
+            Metered::TooMuch
+        }
+    }
+
+    // Time passes in the answered call: its payer is charged for it, and the total has it too.
+    pub fn give(self, seconds: u32) -> Metered
+        ensures { λ out. ⌜ out ≡ giveOf self seconds ⌝ }
+    {
+        let charged = self.charge(seconds);
+        match charged {
+            Metered::Done(m) => m.lasts(seconds),
+            Metered::NoPayer => Metered::NoPayer,
+            Metered::TooMuch => Metered::TooMuch,
         }
     }
 
@@ -114,8 +158,9 @@ impl Meters {
             called: self.called,
             far: self.far,
             payer: payer,
+            total: self.total,
         };
-        emptied.give(self.caller)
+        emptied.charge(self.caller)
     }
 
     // Case C in transfer mode, at the destination: the Duration received stands for all seconds so far.
@@ -127,8 +172,9 @@ impl Meters {
             called: 0,
             far: 0,
             payer: Payer::Called,
+            total: self.total,
         };
-        emptied.give(duration)
+        emptied.charge(duration)
     }
 
     // One change, with the seconds that passed or were received.

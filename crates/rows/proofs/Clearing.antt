@@ -6,7 +6,7 @@ use Prim.Native.Nat.{ℕ}
 use native.Mathlib.Omega.{arith}
 use lib.Dec.{eqb, leb}
 use borrow.Author.Tests.{eqb-true}
-use Rattle.meters.proofs.Laws.{Gave, gave}
+use Rattle.meters.proofs.Laws.{received}
 use Rattle.meters.specs.Meters.{receivedOf, changeOf}
 use Rattle.meters.specs.declared.Change.{Change}
 use Rattle.meters.specs.declared.Meters.{Meters}
@@ -195,7 +195,7 @@ module _ (c : Call) (r : Reading) where
   accepted-charges true true true d h = λ z. refl
   accepted-charges true true false true h =
       settled (Charged true) (receivedOf (c .meters) (r .seconds)) c (Rows.calledAccepted Entire Transfer true true) r
-      (λ n e z. let g : Gave _ n Called (r .seconds) = gave _ n (r .seconds) e in g .payer)
+      (λ n e z. let g = received (c .meters) n (r .seconds) e in g .payer)
       (λ z. absurd (omega (arith, z)))
       (λ z. absurd (omega (arith, z)))
   accepted-charges true true false false h = λ z. differ h

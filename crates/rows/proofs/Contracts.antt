@@ -15,10 +15,11 @@ use prog.Memory.{Memory}
 use prog.Routine.{Routine}
 use prog.Wp.{Heap}
 use Rattle.rows.specs.Perform.{refusedOf}
-use Rattle.rows.specs.Step.{stepOf, unopenedCall}
+use Rattle.rows.specs.Step.{stepOf, totalOf, unopenedCall}
 use Rattle.rows.specs.Telephone.{sameNumber}
 use Rattle.rows.proofs.Call.refused as refused
 use Rattle.rows.proofs.Call.step as step
+use Rattle.rows.proofs.Call.total as total
 use Rattle.rows.proofs.Call.unopened as unopened
 use Rattle.rows.proofs.telephone.same_number as same-number
 
@@ -46,6 +47,11 @@ module _ {M : Type 1} (𝓤 : URA M) (H : Heap 𝓤) (A : Atoms 𝓤) (mem : Mem
   pub unopened-says : (κs : Lfts 0) (a : Args unopened.signature κs) →
       unopened.spec 𝓤 H A mem run κs a ≡ Promises unopened.ended κs a (λ out. out ≡ unopenedCall)
   unopened-says κs a = refl
+
+  -- a .0 is the call
+  pub total-says : (κs : Lfts 0) (a : Args total.signature κs) →
+      total.spec 𝓤 H A mem run κs a ≡ Promises total.ended κs a (λ out. out ≡ totalOf (a .0))
+  total-says κs a = refl
 
   -- a .0 and a .1 .0 are the numbers
   pub same-number-says : (κs : Lfts 0) (a : Args same-number.signature κs) →

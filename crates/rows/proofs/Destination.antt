@@ -8,7 +8,7 @@ use Prim.Native.Nat.{ℕ, _+_, _≤_}
 use native.Mathlib.Omega.{arith}
 use lib.Dec.{eqb, leb}
 use borrow.Author.Tests.{eqb-true, eqb-false, eq-eqb, leb-true}
-use Rattle.meters.proofs.Laws.{Gave, gave, duration-counts}
+use Rattle.meters.proofs.Laws.{Gave, gave, received}
 use Rattle.meters.specs.Meters.{newOf, paidByOf, giveOf, receivedOf}
 use Rattle.meters.specs.declared.Metered.the-variants.{Done}
 use Rattle.meters.specs.declared.Meters.{Meters}
@@ -121,7 +121,7 @@ Fine f b g c w x e row = Does f b g c w x e (planOf row (termsOf (c .side .flags
 
 -- ---- What the meters promise
 
-ticks : {m n : Meters} {x s : ℕ} → Right m x → Gave m n (m .payer) s → Right n (x + s)
+ticks : {m n : Meters} {x s : ℕ} → Right m x → Gave m n (m .payer) s s → Right n (x + s)
 ticks {m} {n} {x} {s} z g =
     let p = not-callers (m .payer) s (z .there) in
     record { there = ap payerThere (g .payer) ∙ z .there; sums = record { caller = omega arith; both = omega arith } }
@@ -131,9 +131,8 @@ switches p h z = record { there = h; sums = record { caller = z .caller; both = 
 
 receives-duration : {m n : Meters} {x : ℕ} (s : ℕ) → Sum m x → receivedOf m s ≡ Done n → Right n s
 receives-duration {m} {n} s z h =
-    let g : Gave _ n Called s = gave _ n s h in
-    let d = duration-counts m n s h in
-    record { there = ap payerThere (g .payer); sums = record { caller = omega (arith, g .caller); both = omega (arith, d .0, d .1) } }
+    let g = received m n s h in
+    record { there = ap payerThere (g .payer); sums = record { caller = g .caller ∙ z .caller; both = omega (arith, g .called, g .far) } }
 
 begins-far : Right (paidByOf newOf Far) 0
 begins-far = record { there = refl; sums = record { caller = refl; both = refl } }

@@ -18,5 +18,6 @@ pub mod Running
 pub mod SameNumbers
 pub mod Stays
 pub mod Theorems
+pub mod Totals
 pub mod Truth
 pub mod Whole

@@ -6,8 +6,8 @@ use mathlib.Core.List.{List, [], _∷_}
 use Prim.Native.Nat.{ℕ, _+_}
 use lib.Dec.{eqb, leb}
 use borrow.Author.Tests.{not-true}
-use Rattle.meters.proofs.Laws.{Gave, gave, Moved, moved}
-use Rattle.meters.specs.Meters.{limit, totalOf, unlessPast, givesTo, changeOf}
+use Rattle.meters.proofs.Laws.{gave, Moved, moved, received, timed}
+use Rattle.meters.specs.Meters.{limit, sumOf, unlessPast, chargesTo, thenLasts, changeOf}
 use Rattle.meters.specs.declared.Change.{Change}
 use Rattle.meters.specs.declared.Change.the-variants.{Keep, CallerPays, CalledPays, FarPays, NobodyPays, EntireToCalled, EntireToFar}
 use Rattle.meters.specs.declared.Change.the-variants.{TimePasses, DurationReceived}
@@ -69,7 +69,7 @@ named NobodyPays m n s h k = differ k
 named EntireToCalled m n s h k = let g : Moved m n Called = moved m n Called h in ap (same Nobody) (g .payer)
 named EntireToFar m n s h k = let g : Moved m n Far = moved m n Far h in ap (same Nobody) (g .payer)
 named TimePasses m n s h k = differ k
-named DurationReceived m n s h k = let g : Gave _ n Called s = gave _ n s h in ap (same Nobody) (g .payer)
+named DurationReceived m n s h k = let g = received m n s h in ap (same Nobody) (g .payer)
 
 left-alone : (x : Change) (m n : Meters) (s : ℕ) → changeOf x m s ≡ Done n → leaves x ≡ true → n .payer ≡ m .payer
 left-alone Keep m n s h k = ap (λ (y : Metered). metersIn y m .payer) (sym h)
@@ -79,7 +79,7 @@ left-alone FarPays m n s h k = differ k
 left-alone NobodyPays m n s h k = differ k
 left-alone EntireToCalled m n s h k = differ k
 left-alone EntireToFar m n s h k = differ k
-left-alone TimePasses m n s h k = let g : Gave m n (m .payer) s = gave m n s h in g .payer
+left-alone TimePasses m n s h k = let g = gave m n s h in g .payer
 left-alone DurationReceived m n s h k = differ k
 
 -- ---- Every plan that leads to ANSWERED names a payer, or leaves the one who pays there already
@@ -111,20 +111,9 @@ paid-stays c e u =
 
 -- ---- 10 is given only to such a call
 
-abbrev counts : Change → Bool
-counts Keep = false
-counts CallerPays = false
-counts CalledPays = false
-counts FarPays = false
-counts NobodyPays = false
-counts EntireToCalled = false
-counts EntireToFar = false
-counts TimePasses = true
-counts DurationReceived = false
-
 -- time is counted in ANSWERED alone; and no plan has the number 10
 abbrev times : Test
-times r now k p = implies (counts (p .change)) (isAnswered (now .phase)) && not (eqb (p .number) 10)
+times r now k p = implies (timed (p .change)) (isAnswered (now .phase)) && not (eqb (p .number) 10)
 
 module _ (c : Call) (p : Plan) (r : Reading) where
   abbrev NotTen : Metered → Type 0
@@ -134,36 +123,42 @@ module _ (c : Call) (p : Plan) (r : Reading) where
   by-the-limit true m = refl
   by-the-limit false m = refl
 
-  given-to : (q : Payer) (m : Meters) (s : ℕ) → same Nobody q ≡ false → NotTen (givesTo q m s)
-  given-to Nobody m s h = differ (sym h)
-  given-to Caller m s h = by-the-limit (leb (totalOf m + (s + 0 + 0)) limit) _
-  given-to Called m s h = by-the-limit (leb (totalOf m + (0 + s + 0)) limit) _
-  given-to Far m s h = by-the-limit (leb (totalOf m + (0 + 0 + s)) limit) _
+  charged-to : (q : Payer) (m : Meters) (s : ℕ) → same Nobody q ≡ false → NotTen (chargesTo q m s)
+  charged-to Nobody m s h = differ (sym h)
+  charged-to Caller m s h = by-the-limit (leb (sumOf m + (s + 0 + 0)) limit) _
+  charged-to Called m s h = by-the-limit (leb (sumOf m + (0 + s + 0)) limit) _
+  charged-to Far m s h = by-the-limit (leb (sumOf m + (0 + 0 + s)) limit) _
 
-  changed : (x : Change) (m : Meters) (s : ℕ) → (counts x ≡ true → same Nobody (m .payer) ≡ false) → NotTen (changeOf x m s)
+  -- the total's limit gives no 10 either
+  lasting : (x : Metered) (s : ℕ) → NotTen x → NotTen (thenLasts x s)
+  lasting (Metered.Done m) s h = by-the-limit (leb (m .total + s) limit) _
+  lasting Metered.NoPayer s h = h
+  lasting Metered.TooMuch s h = h
+
+  changed : (x : Change) (m : Meters) (s : ℕ) → (timed x ≡ true → same Nobody (m .payer) ≡ false) → NotTen (changeOf x m s)
   changed Keep m s h = refl
   changed CallerPays m s h = refl
   changed CalledPays m s h = refl
   changed FarPays m s h = refl
   changed NobodyPays m s h = refl
-  changed EntireToCalled m s h = given-to Called _ (m .caller) refl
-  changed EntireToFar m s h = given-to Far _ (m .caller) refl
-  changed TimePasses m s h = given-to (m .payer) m s (h refl)
-  changed DurationReceived m s h = given-to Called _ s refl
+  changed EntireToCalled m s h = charged-to Called _ (m .caller) refl
+  changed EntireToFar m s h = charged-to Far _ (m .caller) refl
+  changed TimePasses m s h = lasting (chargesTo (m .payer) m s) s (charged-to (m .payer) m s (h refl))
+  changed DurationReceived m s h = charged-to Called _ s refl
 
 -- Where somebody pays, or nobody has to, the number is not 10.
 pub ten-for-the-unpaid : (c : Call) (e : Event) → unpaid c ≡ false → eqb (stepOf c e .number) 10 ≡ false
 ten-for-the-unpaid c e u =
     guarded (λ (o : Outcome). eqb (o .number) 10 ≡ false) c e (λ v. refl) (λ v. refl) (λ v o. go (appliesOf (planFor c e .number)))
   where
-    tested : (implies (counts (planFor c e .change)) (isAnswered (c .stand .phase)) && not (eqb (planFor c e .number) 10)) ≡ true
+    tested : (implies (timed (planFor c e .change)) (isAnswered (c .stand .phase)) && not (eqb (planFor c e .number) 10)) ≡ true
     tested = holds times (λ e′ t x y. refl) c e
 
     go : (b : Bool) → eqb (performIf b c (planFor c e) (readOf e) .number) 10 ≡ false
     go true =
         changed c (planFor c e) (readOf e) (planFor c e .change) (c .meters) (readOf e .seconds)
         (λ k. sym (ap (λ (b : Bool). b && same Nobody (c .meters .payer)) (so _ _ (left _ _ tested) k)) ∙ u)
-    go false = not-true _ (right (implies (counts (planFor c e .change)) (isAnswered (c .stand .phase))) _ tested)
+    go false = not-true _ (right (implies (timed (planFor c e .change)) (isAnswered (c .stand .phase))) _ tested)
 
 -- ---- So no history from before the opening meets it
 

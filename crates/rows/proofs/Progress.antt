@@ -6,10 +6,10 @@ use Prim.Native.Nat.{ℕ, _+_, _≤_}
 use native.Mathlib.Omega.{arith}
 use lib.Dec.{eqb, leb}
 use borrow.Author.Tests.{eqb-true, leb-true, le-leb}
-use Rattle.meters.proofs.Laws.{gives-fit, entire-fits, duration-fits}
-use Rattle.meters.specs.Meters.{limit, totalOf}
-use Rattle.meters.specs.declared.Change.the-variants.{TimePasses}
+use Rattle.meters.proofs.Laws.{fits, gave-fits, too-much, unpaid, gives-fit, entire-fits, duration-fits}
+use Rattle.meters.specs.Meters.{limit, sumOf, withinOf, giveOf}
 use Rattle.meters.specs.declared.Metered.{Metered}
+use Rattle.meters.specs.declared.Metered.the-variants.{Done, NoPayer, TooMuch}
 use Rattle.meters.specs.declared.Meters.{Meters}
 use Rattle.meters.specs.declared.Payer.the-variants.{Nobody, Called, Far}
 use Rattle.rows.specs.Bill.{resultTo, invokeOf, turnedTo, isAnswered}
@@ -18,7 +18,7 @@ use Rattle.rows.specs.Promises.{sent, holding, isAnswer, isFacility, bar
 use Rattle.rows.specs.Promises.{calledTurns, setupTold, answeredTold, messageTurns, accessTurns, takesEffect, InEffect}
 use Rattle.rows.specs.Read.{bit, lowest, readOf, interactionBy, modeBy, extentBy, termsOf}
 use Rattle.rows.specs.Rows
-use Rattle.rows.specs.Step.{takesOf, stepOf}
+use Rattle.rows.specs.Step.{totalOf, takesOf, stepOf}
 use Rattle.rows.specs.Valid.{placedOf, meteredOf, validOf, eventOk}
 use Rattle.rows.specs.declared.Call.{Call}
 use Rattle.rows.specs.declared.Component.{Component}
@@ -31,14 +31,12 @@ use Rattle.rows.specs.declared.Interaction.the-variants.{Allowed}
 use Rattle.rows.specs.declared.Message.{Message}
 use Rattle.rows.specs.declared.Mode.{Mode}
 use Rattle.rows.specs.declared.Mode.the-variants.{NoTransfer, Transfer}
-use Rattle.rows.specs.declared.Next.the-variants.{Stay}
 use Rattle.rows.specs.declared.Number.{Number}
 use Rattle.rows.specs.declared.Outcome.{Outcome}
 use Rattle.rows.specs.declared.Phase.{Phase}
 use Rattle.rows.specs.declared.Phase.the-variants.{Unopened, Null, Setup, Answered, Cleared}
 use Rattle.rows.specs.declared.Plan.{Plan}
 use Rattle.rows.specs.declared.Reading.{Reading}
-use Rattle.rows.specs.declared.Register.the-variants.{AsHeld}
 use Rattle.rows.specs.declared.RevState.{RevState}
 use Rattle.rows.specs.declared.RevState.the-variants.{Idle, WaitSetup, WaitActive, WaitAnswer, Active, WaitSetupConf, WaitActiveConf}
 use Rattle.rows.specs.declared.RevState.the-variants.{WaitCalled}
@@ -57,10 +55,10 @@ valid-place c v = left _ _ v
 valid-metered : (c : Call) → validOf c ≡ true → meteredOf (c .side .role) (c .stand .phase) (c .meters) ≡ true
 valid-metered c v = left _ _ (right (placedOf (c .side .role) (c .stand .phase) (c .stand .rev)) _ v)
 
-valid-sum : (c : Call) → validOf c ≡ true → totalOf (c .meters) ≤ limit
+valid-sum : (c : Call) → validOf c ≡ true → sumOf (c .meters) ≤ limit
 valid-sum c v =
-    leb-true (totalOf (c .meters)) limit
-    (left _ _ (right (meteredOf (c .side .role) (c .stand .phase) (c .meters)) _ (right (placedOf (c .side .role) (c .stand .phase) (c .stand .rev)) _ v)))
+    leb-true (sumOf (c .meters)) limit
+    (left _ _ (left (withinOf (c .meters)) _ (right (meteredOf (c .side .role) (c .stand .phase) (c .meters)) _ (right (placedOf (c .side .role) (c .stand .phase) (c .stand .rev)) _ v))))
 
 somebody : (t : Bool) → turnedTo t ≡ Nobody → ⊥
 somebody true z = let n : _≡_ {A = ℕ} 0 1 = cc in omega arith
@@ -68,32 +66,55 @@ somebody false z = let n : _≡_ {A = ℕ} 0 1 = cc in omega arith
 
 -- ---- Time
 
-counts : (c : Call) (s : ℕ) → (c .meters .payer ≡ Nobody → ⊥) → totalOf (c .meters) + s ≤ limit →
-    performOf c (Rows.planOf TimeCounts (termsOf (c .side .flags) (c .stand) (readOf (Time s)))) (readOf (Time s)) .number ≡ 0
-counts c s p l =
-    gives-fit (λ (x : Metered). settledOf x c (Rows.quiet Stay TimePasses AsHeld) (readOf (Time s)) .number ≡ 0) (c .meters .payer) (c .meters) s p l (λ n. refl)
+-- the number given back where the meters' answer decides it
+abbrev numberBy : Metered → ℕ
+numberBy (Done n) = 0
+numberBy NoPayer = 10
+numberBy TooMuch = 2
+
+settled-number : (x : Metered) (c : Call) (p : Plan) (r : Reading) → settledOf x c p r .number ≡ numberBy x
+settled-number (Done n) c p r = refl
+settled-number NoPayer c p r = refl
+settled-number TooMuch c p r = refl
 
 -- a call at an exchange, in a phase and REV state
 abbrev pub standing : Role → Flags → Phase → RevState → Bool → Bool → Meters → Number → Number → Number → Call
 standing r f ph rv a b m u v w = holding r f (record { phase = ph; rev = rv; agreed = a; rest = b }) m u v w
 
-module _ (f : Flags) (a b : Bool) (m : Meters) (u v w : Number) (s : ℕ) (p : m .payer ≡ Nobody → ⊥) (l : totalOf m + s ≤ limit) where
+module _ (f : Flags) (a b : Bool) (m : Meters) (u v w : Number) (s : ℕ) where
   -- in every place that ANSWERED has
-  accepts : (r : Role) (ph : Phase) (rv : RevState) → placedOf r ph rv ≡ true → isAnswered ph ≡ true →
-      takesOf (standing r f ph rv a b m u v w) (Time s) .number ≡ 0
-  accepts =
-      placed (λ (r : Role) (ph : Phase) (rv : RevState). isAnswered ph ≡ true → takesOf (standing r f ph rv a b m u v w) (Time s) .number ≡ 0)
+  counts : (r : Role) (ph : Phase) (rv : RevState) → placedOf r ph rv ≡ true → isAnswered ph ≡ true →
+      takesOf (standing r f ph rv a b m u v w) (Time s) .number ≡ numberBy (giveOf m s)
+  counts =
+      placed (λ (r : Role) (ph : Phase) (rv : RevState). isAnswered ph ≡ true → takesOf (standing r f ph rv a b m u v w) (Time s) .number ≡ numberBy (giveOf m s))
       (λ r i. differ i) (λ r i. differ i) (λ r i. differ i)
-      differ differ differ (λ i. counts _ s p l) (λ i. counts _ s p l) (λ i. counts _ s p l)
-      differ differ differ differ (λ i. counts _ s p l) (λ i. counts _ s p l) (λ i. counts _ s p l) (λ i. counts _ s p l)
+      differ differ differ (λ i. settled-number (giveOf m s) _ _ _) (λ i. settled-number (giveOf m s) _ _ _) (λ i. settled-number (giveOf m s) _ _ _)
+      differ differ differ differ (λ i. settled-number (giveOf m s) _ _ _) (λ i. settled-number (giveOf m s) _ _ _) (λ i. settled-number (giveOf m s) _ _ _) (λ i. settled-number (giveOf m s) _ _ _)
 
--- in ANSWERED, where somebody pays, a time in range that fits the limit is accepted
-pub time-accepted : (c : Call) (s : ℕ) → validOf c ≡ true → c .stand .phase ≡ Answered → (c .meters .payer ≡ Nobody → ⊥) → s ≤ 86400 →
-    totalOf (c .meters) + s ≤ limit → stepOf c (Time s) .number ≡ 0
-time-accepted c s v h p d l =
+-- a time in range, at a call in ANSWERED: the meters decide
+time-number : (c : Call) (s : ℕ) → validOf c ≡ true → c .stand .phase ≡ Answered → s ≤ 86400 →
+    stepOf c (Time s) .number ≡ numberBy (giveOf (c .meters) s)
+time-number c s v h d =
     ap (λ (o : Outcome). o .number) (row-decides c (Time s) v (le-leb s 86400 d))
-    ∙ accepts (c .side .flags) (c .stand .agreed) (c .stand .rest) (c .meters) (c .side .own) (c .side .calling) (c .side .called) s p l
+    ∙ counts (c .side .flags) (c .stand .agreed) (c .stand .rest) (c .meters) (c .side .own) (c .side .calling) (c .side .called) s
     (c .side .role) (c .stand .phase) (c .stand .rev) (valid-place c v) (ap isAnswered h)
+
+-- where somebody pays, it is accepted if the sum and the total stay within the limit ..
+pub time-accepted : (c : Call) (s : ℕ) → validOf c ≡ true → c .stand .phase ≡ Answered → (c .meters .payer ≡ Nobody → ⊥) → s ≤ 86400 →
+    sumOf (c .meters) + s ≤ limit → totalOf c + s ≤ limit → stepOf c (Time s) .number ≡ 0
+time-accepted c s v h p d l t =
+    time-number c s v h d ∙ gives-fit (λ (x : Metered). numberBy x ≡ 0) (c .meters) s p l t (λ n. refl)
+
+-- .. and else it is too much
+too-much-exactly : (m : Meters) (s : ℕ) → (m .payer ≡ Nobody → ⊥) → (x : Metered) → giveOf m s ≡ x → eqb (numberBy x) 2 ≡ not (fits m s)
+too-much-exactly m s p (Done n) e = sym (ap not (gave-fits m n s e))
+too-much-exactly m s p NoPayer e = absurd (p (unpaid m s e))
+too-much-exactly m s p TooMuch e = sym (ap not (too-much m s e))
+
+pub time-two-exactly : (c : Call) (s : ℕ) → validOf c ≡ true → c .stand .phase ≡ Answered → (c .meters .payer ≡ Nobody → ⊥) → s ≤ 86400 →
+    eqb (stepOf c (Time s) .number) 2 ≡ not (leb (sumOf (c .meters) + s) limit && leb (totalOf c + s) limit)
+time-two-exactly c s v h p d =
+    ap (λ (n : ℕ). eqb n 2) (time-number c s v h d) ∙ too-much-exactly (c .meters) s p (giveOf (c .meters) s) refl
 
 -- ---- Plans that lead to ACTIVE do
 
@@ -122,7 +143,7 @@ module _ (c : Call) (r : Reading) where
   active-confirmed = either-way Rows.activeConfirmed (record { number = refl; phase = refl; rev = refl }) (record { number = refl; phase = refl; rev = refl })
 
   -- interaction allowed, transfer taken, called number or transfer requested, partial. Case C moves what was within the limit
-  called-asked : totalOf (c .meters) ≤ limit → (i t e p : Bool) → (i && e) ≡ true → Turns (Rows.calledAsked (interactionBy i) (extentBy p) (modeBy t) e)
+  called-asked : sumOf (c .meters) ≤ limit → (i t e p : Bool) → (i && e) ≡ true → Turns (Rows.calledAsked (interactionBy i) (extentBy p) (modeBy t) e)
   called-asked l false t e p h = differ h
   called-asked l true t false p h = differ h
   called-asked l true false true true h = record { number = refl; phase = refl; rev = refl }
@@ -206,7 +227,7 @@ module _ (f : Flags) (a b : Bool) (mt : Meters) (u v w : Number) where
     in-setup WaitActiveConf h = differ h
     in-setup WaitCalled h = differ h
 
-    in-answered : totalOf mt ≤ limit → (rv : RevState) → answeredTurns rv f m ≡ true →
+    in-answered : sumOf mt ≤ limit → (rv : RevState) → answeredTurns rv f m ≡ true →
         InEffect (takesOf (standing Originating f Answered rv a b mt u v w) (Received m))
     in-answered l Idle h =
         a-facility (λ (k : ℕ). Leads Originating Answered Idle k (m .component)) (m .kind) (left _ _ h)

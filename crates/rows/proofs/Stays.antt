@@ -7,10 +7,10 @@ use mathlib.Core.List.{List, [], _∷_}
 use Prim.Native.Nat.{ℕ}
 use native.Mathlib.Omega.{arith}
 use lib.Dec.{eqb, leb}
-use borrow.Author.Tests.{eqb-true, le-leb}
+use borrow.Author.Tests.{eqb-true, eq-eqb, le-leb}
 use Rattle.meters.proofs.Laws
-use Rattle.meters.proofs.Laws.{Gave, gave, moved}
-use Rattle.meters.specs.Meters.{limit, withinOf, paidByOf, giveOf, entireOf, receivedOf, changeOf}
+use Rattle.meters.proofs.Laws.{Gave, gave, gave-within, moved, received}
+use Rattle.meters.specs.Meters.{limit, sumOf, withinOf, addsUpOf, paidByOf, giveOf, entireOf, receivedOf, changeOf}
 use Rattle.meters.specs.declared.Change.{Change}
 use Rattle.meters.specs.declared.Change.the-variants.{Keep, CallerPays, CalledPays, FarPays, NobodyPays, EntireToCalled, EntireToFar}
 use Rattle.meters.specs.declared.Change.the-variants.{TimePasses, DurationReceived}
@@ -24,7 +24,7 @@ use Rattle.rows.specs.Promises.{noneIs}
 use Rattle.rows.specs.Read.{bit, readOf}
 use Rattle.rows.specs.Telephone.{national}
 use Rattle.rows.specs.Step.{unopenedCall, stepOf}
-use Rattle.rows.specs.Valid.{placedOf, inRange, unmetered, payerNobody, payerThere, noCaller, meteredOf, payingThere, payingOf}
+use Rattle.rows.specs.Valid.{placedOf, inRange, unmetered, payerNobody, payerThere, tallied, meteredOf, payingThere, payingOf}
 use Rattle.rows.specs.Valid.{numbersHeld, validOf, numberIf, componentOk, partsOk, eventOk}
 use Rattle.rows.specs.declared.Call.{Call}
 use Rattle.rows.specs.declared.Event.{Event}
@@ -113,8 +113,8 @@ ageOf Cleared = over
 
 abbrev meteredIn : Role → Age → Meters → Bool
 meteredIn r before m = unmetered m
-meteredIn r talking m = noCaller r m
-meteredIn r over m = noCaller r m
+meteredIn r talking m = tallied r m
+meteredIn r over m = tallied r m
 
 abbrev payingIn : Role → Age → Payer → Bool
 payingIn r before p = payerNobody p
@@ -140,20 +140,45 @@ pub record Sound (r : Role) (t : Age) (m : Meters) : Type 0 where
   pub within : withinOf m ≡ true
   pub paying : payingIn r t (m .payer) ≡ true
 
--- the caller's meter of a destination stays 0
-no-caller : (r : Role) (t : Age) (m : Meters) → meteredIn r t m ≡ true → noCaller r m ≡ true
-no-caller Originating t m h = refl
-no-caller Destination before m h = left (eqb (m .caller) 0) _ (left (eqb (m .caller) 0 && eqb (m .called) 0) _ h)
-no-caller Destination talking m h = h
-no-caller Destination over m h = h
+-- before the answer: nothing is counted, so all is in order for either role
+record Empty (m : Meters) : Type 0 where
+  caller : m .caller ≡ 0
+  called : m .called ≡ 0
+  far : m .far ≡ 0
+  total : m .total ≡ 0
 
-same-caller : (r : Role) (m n : Meters) → n .caller ≡ m .caller → noCaller r m ≡ true → noCaller r n ≡ true
-same-caller Originating m n e h = refl
-same-caller Destination m n e h = ap (λ (x : ℕ). eqb x 0) e ∙ h
+empty : (m : Meters) → unmetered m ≡ true → Empty m
+empty m h =
+    let three = left (eqb (m .caller) 0 && eqb (m .called) 0 && eqb (m .far) 0) _ h in
+    let two = left (eqb (m .caller) 0 && eqb (m .called) 0) _ three in
+    record {
+      caller = eqb-true _ _ (left (eqb (m .caller) 0) _ two);
+      called = eqb-true _ _ (right (eqb (m .caller) 0) _ two);
+      far = eqb-true _ _ (right (eqb (m .caller) 0 && eqb (m .called) 0) _ three);
+      total = eqb-true _ _ (right (eqb (m .caller) 0 && eqb (m .called) 0 && eqb (m .far) 0) _ h);
+    }
 
-emptied : (r : Role) (n : Meters) → n .caller ≡ 0 → noCaller r n ≡ true
-emptied Originating n e = refl
-emptied Destination n e = ap (λ (x : ℕ). eqb x 0) e
+-- at the originating exchange the total is the meters' sum; the caller's meter of a destination is 0
+adds-up : (m : Meters) → sumOf m ≡ m .total → tallied Originating m ≡ true
+adds-up m e = eq-eqb _ _ e
+
+no-caller : (m : Meters) → m .caller ≡ 0 → tallied Destination m ≡ true
+no-caller m e = eq-eqb _ _ e
+
+in-order : (r : Role) (t : Age) (m : Meters) → meteredIn r t m ≡ true → tallied r m ≡ true
+in-order Originating before m h = let z = empty m h in adds-up m (omega (arith, z .caller, z .called, z .far, z .total))
+in-order Destination before m h = no-caller m (empty m h .caller)
+in-order r talking m h = h
+in-order r over m h = h
+
+-- which stays where neither sum nor total changes, and no caller's second comes
+same-tally : (r : Role) (m n : Meters) → n .caller ≡ 0 → sumOf n ≡ sumOf m → n .total ≡ m .total → tallied r m ≡ true → tallied r n ≡ true
+same-tally Originating m n c s t h = let e : sumOf m ≡ m .total = eqb-true _ _ h in adds-up n (omega (arith, s, t, e))
+same-tally Destination m n c s t h = no-caller n c
+
+-- the limits stay with the sum and the total
+same-within : (m n : Meters) → sumOf n ≡ sumOf m → n .total ≡ m .total → withinOf m ≡ true → withinOf n ≡ true
+same-within m n s t h = ap (λ (x : ℕ). leb x limit && leb (n .total) limit) s ∙ (ap (λ (x : ℕ). leb (sumOf m) limit && leb x limit) t ∙ h)
 
 -- which changes of the meters keep that
 abbrev isBefore : Age → Bool
@@ -180,6 +205,10 @@ abbrev isOriginating : Role → Bool
 isOriginating Originating = true
 isOriginating Destination = false
 
+abbrev isDestination : Role → Bool
+isDestination Originating = false
+isDestination Destination = true
+
 abbrev turns : Role → Age → Age → Change → Bool
 turns r t u Keep = sameAge t u
 turns r t u CallerPays = isOriginating r && isTalking u
@@ -189,7 +218,7 @@ turns r t u NobodyPays = isOver u
 turns r t u EntireToCalled = isTalking u
 turns r t u EntireToFar = isTalking u
 turns r t u TimePasses = isTalking t && isTalking u
-turns r t u DurationReceived = isTalking u
+turns r t u DurationReceived = isDestination r && isTalking u
 
 is-before : (t : Age) → isBefore t ≡ true → t ≡ before
 is-before before h = refl
@@ -218,45 +247,55 @@ not-callers Caller s h = cc
 not-callers Called s h = refl
 not-callers Far s h = refl
 
-ticked : (r : Role) {m n : Meters} {s : ℕ} → Sound r talking m → Gave m n (m .payer) s → noCaller r n ≡ true
-ticked Originating z g = refl
+ticked : (r : Role) {m n : Meters} {s : ℕ} → Sound r talking m → Gave m n (m .payer) s s → tallied r n ≡ true
+ticked Originating {m} {n} {s} z g =
+    let e : sumOf m ≡ m .total = eqb-true _ _ (z .metered) in
+    adds-up n (omega (arith, g .sum, g .total, e))
 ticked Destination {m} {n} {s} z g =
     let p = not-callers (m .payer) s (z .paying) in
     let q : m .caller ≡ 0 = eqb-true _ _ (z .metered) in
-    emptied Destination n (omega arith)
+    no-caller n (omega arith)
 
--- what a change leaves: a payer, no caller's second at a destination, a sum within the limit
+-- what a change leaves: a payer, meters in order, sum and total within the limit
 record Left (r : Role) (p : Payer) (n : Meters) : Type 0 where
-  caller : noCaller r n ≡ true
+  tally : tallied r n ≡ true
   within : withinOf n ≡ true
   payer : n .payer ≡ p
+
+paid-tally : (r : Role) (m : Meters) (p : Payer) → tallied r m ≡ true → tallied r (paidByOf m p) ≡ true
+paid-tally Originating m p h = h
+paid-tally Destination m p h = h
 
 pays : (r : Role) (t : Age) (p : Payer) (m n : Meters) → Sound r t m → Done (paidByOf m p) ≡ Done n → Left r p n
 pays r t p m n z h =
     let e : paidByOf m p ≡ n = cc in
     subst (λ (k : Meters). Left r p k) e
-    (record { caller = same-caller r m _ refl (no-caller r t m (z .metered)); within = z .within; payer = refl })
+    (record { tally = paid-tally r m p (in-order r t m (z .metered)); within = z .within; payer = refl })
 
 moves : (r : Role) (t : Age) (p : Payer) (m n : Meters) → payerThere p ≡ true → Sound r t m → entireOf m p ≡ Done n → Left r p n
 moves r t p m n i z h =
     let g = moved m n p h in
     record {
-      caller = emptied r n (g .caller ∙ not-callers p (m .caller) i);
-      within = ap (λ (x : ℕ). leb x limit) (g .sum) ∙ z .within;
+      tally = same-tally r m n (g .caller ∙ not-callers p (m .caller) i) (g .sum) (g .total) (in-order r t m (z .metered));
+      within = same-within m n (g .sum) (g .total) (z .within);
       payer = g .payer;
     }
 
 ticks : (r : Role) (m n : Meters) (s : ℕ) → Sound r talking m → giveOf m s ≡ Done n → Left r (m .payer) n
 ticks r m n s z h =
     let g = gave m n s h in
-    record { caller = ticked r z g; within = le-leb _ _ (g .bound); payer = g .payer }
+    record { tally = ticked r z g; within = both (le-leb _ _ (g .bound)) (le-leb _ _ (gave-within m n s h)); payer = g .payer }
 
-receives : (r : Role) (t : Age) (m n : Meters) (s : ℕ) → Sound r t m → receivedOf m s ≡ Done n → Left r Called n
-receives r t m n s z h =
-    let g : Gave _ n Called s = gave _ n s h in
+-- a Duration is a destination's: it sets the meters and not the total, so the originating exchange's would no longer add up
+receives : (r : Role) (t : Age) (m n : Meters) (s : ℕ) → isDestination r ≡ true → Sound r t m → receivedOf m s ≡ Done n → Left r Called n
+receives Originating t m n s i z h = differ i
+receives Destination t m n s i z h =
+    let g = received m n s h in
+    let c : m .caller ≡ 0 = eqb-true _ _ (in-order Destination t m (z .metered)) in
     record {
-      caller = same-caller r m n (omega (arith, g .caller)) (no-caller r t m (z .metered));
-      within = le-leb _ _ (g .bound);
+      tally = no-caller n (g .caller ∙ c);
+      within =
+          both (le-leb _ _ (g .bound)) (ap (λ (x : ℕ). leb x limit) (g .total) ∙ right (leb (sumOf m) limit) _ (z .within));
       payer = g .payer;
     }
 
@@ -270,13 +309,13 @@ caller-there Destination h = h
 
 talks : (r : Role) (p : Payer) (n : Meters) (u : Age) → isTalking u ≡ true → payingThere r p ≡ true → Left r p n → Sound r u n
 talks r p n before i h l = differ i
-talks r p n talking i h l = record { metered = l .caller; within = l .within; paying = ap (payingThere r) (l .payer) ∙ h }
+talks r p n talking i h l = record { metered = l .tally; within = l .within; paying = ap (payingThere r) (l .payer) ∙ h }
 talks r p n over i h l = differ i
 
 ends : (r : Role) (n : Meters) (u : Age) → isOver u ≡ true → Left r Nobody n → Sound r u n
 ends r n before i l = differ i
 ends r n talking i l = differ i
-ends r n over i l = record { metered = l .caller; within = l .within; paying = ap payerNobody (l .payer) }
+ends r n over i l = record { metered = l .tally; within = l .within; paying = ap payerNobody (l .payer) }
 
 keeps : (r : Role) (t u : Age) {m : Meters} → sameAge t u ≡ true → Sound r t m → Sound r u m
 keeps r t u {m} i z = subst (λ (v : Age). Sound r v m) (sym (same-age t u i)) z
@@ -294,7 +333,8 @@ changes r t u EntireToFar m n s i z h = talks r Far n u i (there r Far refl) (mo
 changes r t u TimePasses m n s i z h =
     let z′ = subst (λ (v : Age). Sound r v m) (is-talking t (left (isTalking t) _ i)) z in
     talks r (m .payer) n u (right (isTalking t) _ i) (z′ .paying) (ticks r m n s z′ h)
-changes r t u DurationReceived m n s i z h = talks r Called n u i (there r Called refl) (receives r t m n s z h)
+changes r t u DurationReceived m n s i z h =
+    talks r Called n u (right (isDestination r) _ i) (there r Called refl) (receives r t m n s (left (isDestination r) _ i) z h)
 
 -- ---- Every row keeps a call a call
 

@@ -10,7 +10,7 @@ use mathlib.Core.List.{List, _++_}
 use mathlib.Core.Logic.{_↔_}
 use Prim.Native.Nat.{ℕ, _+_, _≤_}
 use lib.Dec.{eqb}
-use Rattle.meters.specs.Meters.{totalOf}
+use Rattle.meters.specs.Meters.{sumOf}
 use Rattle.meters.specs.declared.Payer.the-variants.{Nobody}
 use Rattle.rows.specs.Bill.{bitAt, isAnswered, isRev, answered, Case, plain, marks, took, reversal, payer, bill, line}
 use Rattle.rows.specs.History.{run, history, opening}
@@ -112,9 +112,9 @@ never-back = Phases.never-falls
 
 -- ---- Progress
 
--- In ANSWERED, where somebody pays, a time in range that keeps the sum within the limit is accepted.
+-- In ANSWERED, where somebody pays, a time in range that keeps the sum and the total within the limit is accepted.
 pub time-accepted : (c : Call) (s : ℕ) → validOf c ≡ true → c .stand .phase ≡ Answered → (c .meters .payer ≡ Nobody → ⊥) → s ≤ 86400 →
-    totalOf (c .meters) + s ≤ 31536000 → stepOf c (Time s) .number ≡ 0
+    sumOf (c .meters) + s ≤ 31536000 → c .meters .total + s ≤ 31536000 → stepOf c (Time s) .number ≡ 0
 time-accepted = Progress.time-accepted
 
 -- Each row that leads to ACTIVE does so wherever its needed parts are there and no limit is passed (`takesEffect`: the table of them).

@@ -160,12 +160,12 @@ share-add : (q p : Payer) (x y : ℕ) → share q p (x + y) ≡ share q p x + sh
 share-add q p x y = pick-add (same q p) x y
 
 -- the payer's meter takes the seconds
-ticks : {m n : Meters} {s x y : ℕ} (w : Took) → Right m (known w x y) → Gave m n (m .payer) s → Right n (noteSeconds w x y s)
+ticks : {m n : Meters} {s x y : ℕ} (w : Took) → Right m (known w x y) → Gave m n (m .payer) s s → Right n (noteSeconds w x y s)
 ticks {m} {n} {s} {x} {y} nothing z g =
-    let g′ : Gave m n Caller s = subst (λ (p : Payer). Gave m n p s) (z .pays) g in
+    let g′ : Gave m n Caller s s = subst (λ (p : Payer). Gave m n p s s) (z .pays) g in
     record { pays = g .payer ∙ z .pays; owes = omega arith }
 ticks {m} {n} {s} {x} {y} (took k t) z g =
-    let g′ : Gave m n (payer (took k t) true) s = subst (λ (p : Payer). Gave m n p s) (z .pays) g in
+    let g′ : Gave m n (payer (took k t) true) s s = subst (λ (p : Payer). Gave m n p s s) (z .pays) g in
     let l = law (payer (took k t) true) s in
     record {
       pays = g .payer ∙ z .pays;
@@ -179,7 +179,7 @@ moves false z g = record { pays = g .payer; owes = omega arith }
 
 -- a change of the payer moves nothing
 switches : {m : Meters} {x : ℕ} (t : Bool) → Right m (known nothing x 0) →
-    Right (record { caller = m .caller; called = m .called; far = m .far; payer = turnedTo t }) (known (took caseB t) x 0)
+    Right (paidByOf m (turnedTo t)) (known (took caseB t) x 0)
 switches true z = record { pays = refl; owes = omega arith }
 switches false z = record { pays = refl; owes = omega arith }
 

@@ -12,7 +12,7 @@ use Rattle.meters.specs.declared.Meters.{Meters}
 use Rattle.meters.specs.declared.Payer.{Payer}
 use Rattle.meters.specs.declared.Payer.the-variants.{Nobody, Called, Far}
 use Rattle.rows.specs.Bill.{same, bitAt, lowestBit, resultTo, invokeOf, Mark, plain, second, reversed, Paid, Step, pick}
-use Rattle.rows.specs.Bill.{accepted}
+use Rattle.rows.specs.Bill.{accepted, counted, secondsIn}
 use Rattle.rows.specs.Bill.{isAnswered, isRev, answered}
 use Rattle.rows.specs.Step.{unopenedCall, stepOf}
 use Rattle.rows.specs.Telephone.{absent}
@@ -52,6 +52,32 @@ pub record NothingDone (c : Call) (o : Outcome) : Type 0 where
 abbrev pub noneIs : ℕ → List Step → Bool
 noneIs n [] = true
 noneIs n (s ∷ h) = not (eqb (s .number) n) && noneIs n h
+
+-- ---- The answered total (02 #104): proofs/Totals.antt
+
+-- what a step adds to the answered seconds: the seconds of a time event that was accepted in ANSWERED, else nothing
+abbrev pub lastedIn : Step → ℕ
+lastedIn s = pick (counted s) (secondsIn (s .event)) 0
+
+-- the same call with another total
+abbrev pub withTotal : ℕ → Call → Call
+withTotal t c =
+    record {
+      side = c .side;
+      stand = c .stand;
+      meters = record { caller = c .meters .caller; called = c .meters .called; far = c .meters .far; payer = c .meters .payer; total = t };
+    }
+
+-- The totals that a call may hold, by role, phase and the sum of its meters. Before ANSWERED: 0. From then on, at the originating exchange:
+-- the sum; at a destination: any that is not above the limit, for it is not compared with the meters
+abbrev pub totalFits : Role → Phase → ℕ → ℕ → Bool
+totalFits r Unopened sum t = eqb t 0
+totalFits r Null sum t = eqb t 0
+totalFits r Setup sum t = eqb t 0
+totalFits Originating Answered sum t = eqb sum t
+totalFits Destination Answered sum t = leb t 31536000
+totalFits Originating Cleared sum t = eqb sum t
+totalFits Destination Cleared sum t = leb t 31536000
 
 -- ---- Somebody pays: proofs/Payers.antt
 

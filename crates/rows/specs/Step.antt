@@ -31,6 +31,10 @@ unopenedCall =
       meters = newOf;
     }
 
+-- 02 #104: "Store the answered seconds in the call"
+abbrev pub totalOf : Call → ℕ
+totalOf c = c .meters .total
+
 -- find the row by role, phase, REV state and event; plan it by flags, parts and what is pending; perform it
 abbrev pub takesReading : Call → Reading → Outcome
 takesReading c r =

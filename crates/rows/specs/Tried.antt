@@ -142,7 +142,7 @@ talkedTo called flags seconds =
     record {
       side = record { role = Role.Originating; flags = flagsOf flags; own = room; calling = absent; called = called };
       stand = at Answered Idle false false;
-      meters = record { caller = seconds; called = 0; far = 0; payer = Payer.Caller };
+      meters = record { caller = seconds; called = 0; far = 0; payer = Payer.Caller; total = seconds };
     }
 
 abbrev talkedWith : ℕ → ℕ → Call
@@ -242,7 +242,7 @@ numbered own calling =
     record {
       side = record { role = Role.Originating; flags = flagsOf 8; own = own; calling = calling; called = absent };
       stand = at Null Idle false false;
-      meters = record { caller = 0; called = 0; far = 0; payer = Payer.Nobody };
+      meters = record { caller = 0; called = 0; far = 0; payer = Payer.Nobody; total = 0 };
     }
 
 digitless-refused : run unopenedCall (Opening 0 8 digitless ∷ Opening 0 8 room ∷ Ask 0 digitless ∷ Ask 2 digitless ∷ [])
@@ -299,7 +299,7 @@ paid-here state =
     record {
       side = record { role = Role.Destination; flags = flagsOf 8; own = room; calling = absent; called = absent };
       stand = at Answered state false false;
-      meters = record { caller = 0; called = 40; far = 0; payer = Payer.Called };
+      meters = record { caller = 0; called = 40; far = 0; payer = Payer.Called; total = 40 };
     }
 
 -- D42: the own user is asked, and her access clears

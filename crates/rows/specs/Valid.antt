@@ -9,7 +9,7 @@ use lib.Dec.{ltb, leb, eqb}
 use Rattle.meters.specs.declared.Meters.{Meters}
 use Rattle.meters.specs.declared.Payer.{Payer}
 use Rattle.meters.specs.declared.Payer.the-variants.{Nobody, Caller, Called, Far}
-use Rattle.meters.specs.Meters.{withinOf}
+use Rattle.meters.specs.Meters.{withinOf, addsUpOf}
 use Rattle.rows.specs.declared.Role.{Role}
 use Rattle.rows.specs.declared.Role.the-variants.{Originating, Destination}
 use Rattle.rows.specs.declared.Phase.{Phase}
@@ -105,9 +105,9 @@ tenTo n = pickℕ (leb n 15) (10 ^ n) 0
 abbrev pub inRange : Number → Bool
 inRange n = ltb (n .value) (tenTo (n .count)) && (national (n .nature) || leb 1 (n .count))
 
--- 9: "a meter above 0 before ANSWERED"
+-- 9: "a meter above 0 before ANSWERED"; 02 #104: a total "above 0 before ANSWERED"
 abbrev pub unmetered : Meters → Bool
-unmetered m = eqb (m .caller) 0 && eqb (m .called) 0 && eqb (m .far) 0
+unmetered m = eqb (m .caller) 0 && eqb (m .called) 0 && eqb (m .far) 0 && eqb (m .total) 0
 
 -- 9: "a payer outside ANSWERED, or in it at a destination none of called and far"
 abbrev pub payerNobody : Payer → Bool
@@ -122,17 +122,18 @@ payerThere Caller = false
 payerThere Called = true
 payerThere Far = true
 
--- 9: "a destination's caller above 0"
-abbrev pub noCaller : Role → Meters → Bool
-noCaller Originating m = true
-noCaller Destination m = eqb (m .caller) 0
+-- 9, by role. 02 #104: "A call handed in with an originating total that differs is refused", differs from the three meters' sum; 01: "a
+-- destination's caller above 0". A destination's total is not held to its meters, which a Duration sets
+abbrev pub tallied : Role → Meters → Bool
+tallied Originating m = addsUpOf m
+tallied Destination m = eqb (m .caller) 0
 
 abbrev pub meteredOf : Role → Phase → Meters → Bool
 meteredOf r Unopened m = unmetered m
 meteredOf r Null m = unmetered m
 meteredOf r Setup m = unmetered m
-meteredOf r Answered m = noCaller r m
-meteredOf r Cleared m = noCaller r m
+meteredOf r Answered m = tallied r m
+meteredOf r Cleared m = tallied r m
 
 abbrev pub payingThere : Role → Payer → Bool
 payingThere Originating p = true

@@ -1,6 +1,6 @@
 // One step of a call.
 ghost use mathlib.Core.Path.{_≡_};
-ghost use Rattle.rows.specs.Step.{unopenedCall, takesOf, stepOf};
+ghost use Rattle.rows.specs.Step.{unopenedCall, totalOf, takesOf, stepOf};
 use crate::ABSENT;
 use crate::Call;
 use crate::Event;
@@ -47,6 +47,14 @@ impl Call {
             },
             meters: m,
         }
+    }
+
+    // The answered seconds of the call, whoever pays them: how long it has lasted since the answer, or lasted until it was cleared.
+    pub fn total(self) -> u32
+        ensures { λ out. ⌜ out ≡ totalOf self ⌝ }
+    {
+        let m = self.meters;
+        m.total
     }
 
     // Find, plan, perform.

@@ -1,7 +1,7 @@
 // Which calls the table of document 01 allows (else 9), and which events have their fields in range (else 3).
 ghost use mathlib.Core.Path.{_≡_};
 ghost use Rattle.rows.specs.Valid.{idleOnly, originatingSetup, originatingAnswered, destinationSetup, destinationAnswered, placedOf};
-ghost use Rattle.rows.specs.Valid.{tenTo, inRange, unmetered, payerNobody, payerThere, noCaller, meteredOf, payingThere, payingOf};
+ghost use Rattle.rows.specs.Valid.{tenTo, inRange, unmetered, payerNobody, payerThere, tallied, meteredOf, payingThere, payingOf};
 ghost use Rattle.rows.specs.Valid.{numbersHeld, validOf, numberThere, numberAbsent, numberIf, openingOk, askOk, componentOk, partsOk};
 ghost use Rattle.rows.specs.Valid.{messageOk, accessOk, timeOk, eventOk};
 use crate::Call;
@@ -155,7 +155,7 @@ pub fn in_range(n: Number) -> bool
 fn unmetered(m: Meters) -> bool
     ensures { λ out. ⌜ out ≡ unmetered m ⌝ }
 {
-    (m.caller == 0) & (m.called == 0) & (m.far == 0)
+    (m.caller == 0) & (m.called == 0) & (m.far == 0) & (m.total == 0)
 }
 
 fn payer_nobody(p: Payer) -> bool
@@ -181,12 +181,13 @@ fn payer_there(p: Payer) -> bool
     }
 }
 
-// The caller is never charged at a destination.
-fn no_caller(role: Role, m: Meters) -> bool
-    ensures { λ out. ⌜ out ≡ noCaller role m ⌝ }
+// At the originating exchange the total is the sum of the meters. At a destination the caller is never charged, and the total is not held
+// to the meters: a Duration received sets these.
+fn tallied(role: Role, m: Meters) -> bool
+    ensures { λ out. ⌜ out ≡ tallied role m ⌝ }
 {
     match role {
-        Role::Originating => true,
+        Role::Originating => m.adds_up(),
         Role::Destination => m.caller == 0,
     }
 }
@@ -199,8 +200,8 @@ fn metered(role: Role, phase: Phase, m: Meters) -> bool
         Phase::Unopened => unmetered(m),
         Phase::Null => unmetered(m),
         Phase::Setup => unmetered(m),
-        Phase::Answered => no_caller(role, m),
-        Phase::Cleared => no_caller(role, m),
+        Phase::Answered => tallied(role, m),
+        Phase::Cleared => tallied(role, m),
     }
 }
 

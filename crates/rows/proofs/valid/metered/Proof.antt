@@ -11,5 +11,5 @@ metered-spec =
     (λ c. simp (c .unmetered .ensures, c .before .enum-told .given .1))
     (λ c. simp (c .unmetered2 .ensures, c .before .enum-told2 .given .1))
     (λ c. simp (c .unmetered3 .ensures, c .before .enum-told3 .given .1))
-    (λ c. simp (c .no-caller .ensures, c .before .enum-told4 .given .1))
-    (λ c. simp (c .no-caller2 .ensures, c .before .enum-told5 .given .1)))
+    (λ c. simp (c .tallied .ensures, c .before .enum-told4 .given .1))
+    (λ c. simp (c .tallied2 .ensures, c .before .enum-told5 .given .1)))

@@ -1,0 +1,197 @@
+-- THE ANSWERED TOTAL (02 #104): it grows with the accepted time events of an answered call and with nothing else, so after any history it
+-- is the answered seconds that the bill counts; and which totals are no call's.
+-- Of the meters it uses what their crate promises, Rattle.meters.proofs.Laws; of the rows, that time is counted in ANSWERED, by one test.
+-- Assumes nothing.
+use mathlib.Core.Path.{_≡_, refl, sym, _∙_, ap}
+use mathlib.Core.Bool.{Bool, true, false, _&&_, not}
+use mathlib.Core.List.{List, [], _∷_}
+use Prim.Native.Nat.{ℕ, _+_, _≤_}
+use native.Mathlib.Omega.{arith}
+use lib.Dec.{eqb, leb}
+use borrow.Author.Tests.{eqb-true, le-leb, leb-true}
+use Rattle.meters.proofs.Laws.{timed, onlyIf, total-grows}
+use Rattle.meters.specs.Meters.{limit, sumOf, withinOf}
+use Rattle.meters.specs.declared.Meters.{Meters}
+use Rattle.rows.specs.Bill.{pick, Step, counted, isTime, secondsIn, isAnswered, times, sum, answered}
+use Rattle.rows.specs.History.{run, written, history, opening}
+use Rattle.rows.specs.Promises.{lastedIn, withTotal, totalFits, openingThere}
+use Rattle.rows.specs.Read.{readOf}
+use Rattle.rows.specs.Step.{unopenedCall, totalOf, stepOf, ifInRange}
+use Rattle.rows.specs.Valid.{placedOf, unmetered, meteredOf, payingOf, numbersHeld, validOf, eventOk}
+use Rattle.rows.specs.declared.Call.{Call}
+use Rattle.rows.specs.declared.Event.{Event}
+use Rattle.rows.specs.declared.Event.the-variants.{Opening, Ask, Received, FromAccess, Expiry, Time}
+use Rattle.rows.specs.declared.Kind.{Kind}
+use Rattle.rows.specs.declared.Kind.the-variants.{Opens, Asks, Iam, Answer, Rel, Fac, Tells, Expires, Passes}
+use Rattle.rows.specs.declared.Number.{Number}
+use Rattle.rows.specs.declared.Outcome.{Outcome}
+use Rattle.rows.specs.declared.Phase.{Phase}
+use Rattle.rows.specs.declared.Phase.the-variants.{Unopened, Null, Setup, Answered, Cleared}
+use Rattle.rows.specs.declared.Role.{Role}
+use Rattle.rows.specs.declared.Role.the-variants.{Originating, Destination}
+use Rattle.rows.proofs.Answers.{planFor}
+use Rattle.rows.proofs.Found.{implies, so, Test, holds, stepped}
+use Rattle.rows.proofs.Stays
+use Rattle.rows.proofs.Truth.{differ, left, right}
+use Rattle.rows.proofs.Whole
+use Rattle.rows.proofs.Whole.{by-kind}
+
+-- ---- Every row: time is counted where time passes in ANSWERED, and nowhere else
+
+abbrev isPassing : Kind → Bool
+isPassing Opens = false
+isPassing Asks = false
+isPassing Iam = false
+isPassing Answer = false
+isPassing Rel = false
+isPassing Fac = false
+isPassing Tells = false
+isPassing Expires = false
+isPassing Passes = true
+
+abbrev alike : Bool → Bool → Bool
+alike true b = b
+alike false b = not b
+
+are-alike : (a b : Bool) → alike a b ≡ true → a ≡ b
+are-alike true true h = refl
+are-alike true false h = sym h
+are-alike false true h = h
+are-alike false false h = refl
+
+abbrev counting : Test
+counting r now k p = implies (eqb (p .number) 0) (alike (timed (p .change)) (isPassing k && isAnswered (now .phase)))
+
+-- the reading's kind says whether the event is a time
+passing : (e : Event) → isPassing (readOf e .kind) ≡ isTime e
+passing (Opening r f n) = refl
+passing (Ask q n) = refl
+passing (Received m) = by-kind m (λ (k : Kind). isPassing k ≡ false) refl refl refl refl
+passing (FromAccess a n) = refl
+passing Expiry = refl
+passing (Time s) = refl
+
+seconds-count : (e : Event) (b : Bool) → onlyIf (isTime e && b) (readOf e .seconds) ≡ pick (isTime e && b) (secondsIn e) 0
+seconds-count (Opening r f n) b = refl
+seconds-count (Ask q n) b = refl
+seconds-count (Received m) b = refl
+seconds-count (FromAccess a n) b = refl
+seconds-count Expiry b = refl
+seconds-count (Time s) true = refl
+seconds-count (Time s) false = refl
+
+-- ---- THE LAW, of one step and of any history
+
+pub total-counts : (c : Call) (e : Event) → totalOf (stepOf c e .call) ≡ totalOf c + lastedIn (written c e (stepOf c e))
+total-counts c e =
+    stepped (λ (o : Outcome). totalOf (o .call) ≡ totalOf c + lastedIn (written c e o)) c e
+    (λ v. omega arith)
+    (λ n v z q. refused n z)
+    (λ n d. grown n (total-grows (planFor c e .change) (c .meters) n (readOf e .seconds) (d .meters)) (d .row))
+  where
+    refused : (n : ℕ) → eqb n 0 ≡ false → totalOf c ≡ totalOf c + pick (eqb n 0 && (isTime e && isAnswered (c .stand .phase))) (secondsIn e) 0
+    refused n z =
+        let k : pick (eqb n 0 && (isTime e && isAnswered (c .stand .phase))) (secondsIn e) 0 ≡ 0 =
+        ap (λ (b : Bool). pick (b && (isTime e && isAnswered (c .stand .phase))) (secondsIn e) 0) z in
+        omega (arith, k)
+
+    grown : (n : Meters) → n .total ≡ c .meters .total + onlyIf (timed (planFor c e .change)) (readOf e .seconds) →
+        eqb (planFor c e .number) 0 ≡ true → n .total ≡ totalOf c + pick (isTime e && isAnswered (c .stand .phase)) (secondsIn e) 0
+    grown n g r =
+        let t : timed (planFor c e .change) ≡ (isPassing (readOf e .kind) && isAnswered (c .stand .phase)) =
+        are-alike _ _ (so _ _ (holds counting (λ e′ t a b. refl) c e) r) in
+        let k : timed (planFor c e .change) ≡ (isTime e && isAnswered (c .stand .phase)) =
+        t ∙ ap (λ (b : Bool). b && isAnswered (c .stand .phase)) (passing e) in
+        g ∙ ap (λ (x : ℕ). c .meters .total + x)
+        (ap (λ (b : Bool). onlyIf b (readOf e .seconds)) k ∙ seconds-count e (isAnswered (c .stand .phase)))
+
+first-lasted : (s : Step) (h : List Step) (b : Bool) → sum (pick b (secondsIn (s .event) ∷ times h) (times h)) ≡ pick b (secondsIn (s .event)) 0 + sum (times h)
+first-lasted s h true = refl
+first-lasted s h false = omega arith
+
+pub total-after : (c : Call) (es : List Event) → totalOf (run c es) ≡ totalOf c + answered (history c es)
+total-after c [] = omega arith
+total-after c (e ∷ es) =
+    let n = stepOf c e in
+    let l = total-counts c e in
+    let r = total-after (n .call) es in
+    let k = first-lasted (written c e n) (history (n .call) es) (counted (written c e n)) in
+    omega (arith, l, r, k)
+
+-- ---- From an opening
+
+no-seconds : (b : Bool) → 0 + pick b 0 0 ≡ 0
+no-seconds true = refl
+no-seconds false = refl
+
+opens-at-0 : (r f : ℕ) (own : Number) → totalOf (stepOf unopenedCall (Opening r f own) .call) ≡ 0
+opens-at-0 r f own = total-counts unopenedCall (Opening r f own) ∙ no-seconds (counted (written unopenedCall (Opening r f own) (stepOf unopenedCall (Opening r f own))))
+
+pub total-answered : (f : ℕ) (own : Number) → (es : List Event) →
+    totalOf (run (opening f own .call) es) ≡ answered (history (opening f own .call) es)
+total-answered f own es = let z = opens-at-0 0 f own in let t = total-after (opening f own .call) es in omega (arith, z, t)
+
+pub total-there : (f : ℕ) (own : Number) → (es : List Event) →
+    totalOf (run (openingThere f own .call) es) ≡ answered (history (openingThere f own .call) es)
+total-there f own es = let z = opens-at-0 1 f own in let t = total-after (openingThere f own .call) es in omega (arith, z, t)
+
+pub total-is-sum : (f : ℕ) (own : Number) → opening f own .number ≡ 0 → (es : List Event) →
+    totalOf (run (opening f own .call) es) ≡ sumOf (run (opening f own .call) es .meters)
+total-is-sum f own e es = total-answered f own es ∙ sym (Whole.billed f own e es .all)
+
+-- ---- 9: which totals are a call's
+
+abbrev other : Meters → ℕ → Meters
+other m t = record { caller = m .caller; called = m .called; far = m .far; payer = m .payer; total = t }
+
+-- a total that passes the first test is within the limit
+zero-within : (t : ℕ) (b : Bool) → eqb t 0 ≡ b → (b && leb t limit) ≡ b
+zero-within t true e = le-leb t limit (let z : t ≡ 0 = eqb-true t 0 e in omega (arith, z))
+zero-within t false e = refl
+
+sum-within : (m : Meters) (t : ℕ) (b : Bool) → leb (sumOf m) limit ≡ true → eqb (sumOf m) t ≡ b → (b && leb t limit) ≡ b
+sum-within m t true l e = le-leb t limit (let z : sumOf m ≡ t = eqb-true _ _ e in let w : sumOf m ≤ limit = leb-true _ _ l in omega (arith, z, w))
+sum-within m t false l e = refl
+
+-- of meters that are in order, with another total
+none-before : (m : Meters) (t : ℕ) → unmetered m ≡ true → (unmetered (other m t) && leb t limit) ≡ eqb t 0
+none-before m t h =
+    ap (λ (b : Bool). b && eqb t 0 && leb t limit) (left (eqb (m .caller) 0 && eqb (m .called) 0 && eqb (m .far) 0) _ h)
+    ∙ zero-within t (eqb t 0) refl
+
+in-place : (r : Role) (ph : Phase) (m : Meters) (t : ℕ) → meteredOf r ph m ≡ true → leb (sumOf m) limit ≡ true →
+    (meteredOf r ph (other m t) && leb t limit) ≡ totalFits r ph (sumOf m) t
+in-place r Unopened m t h l = none-before m t h
+in-place r Null m t h l = none-before m t h
+in-place r Setup m t h l = none-before m t h
+in-place Originating Answered m t h l = sum-within m t (eqb (sumOf m) t) l refl
+in-place Destination Answered m t h l = ap (λ (b : Bool). b && leb t limit) h
+in-place Originating Cleared m t h l = sum-within m t (eqb (sumOf m) t) l refl
+in-place Destination Cleared m t h l = ap (λ (b : Bool). b && leb t limit) h
+
+-- the parts of a call's validity that no total touches
+rest-holds : (a x y p q : Bool) → a ≡ true → p ≡ true → q ≡ true → (a && (x && (y && (p && q)))) ≡ (x && y)
+rest-holds a true true p q i j k = ap (λ (b : Bool). b && (p && q)) i ∙ (ap (λ (b : Bool). b && q) j ∙ k)
+rest-holds a true false p q i j k = ap (λ (b : Bool). b && false) i
+rest-holds a false y p q i j k = ap (λ (b : Bool). b && false) i
+
+within-sum : (x b c : Bool) → b ≡ true → (x && (b && c)) ≡ (x && c)
+within-sum x true c h = refl
+within-sum x false c h = differ h
+
+valid-with : (c : Call) (t : ℕ) → validOf c ≡ true → validOf (withTotal t c) ≡ totalFits (c .side .role) (c .stand .phase) (sumOf (c .meters)) t
+valid-with c t v =
+    let r = c .side .role in
+    let ph = c .stand .phase in
+    let m = c .meters in
+    let k = right (placedOf r ph (c .stand .rev)) _ v in
+    let l = right (meteredOf r ph m) _ k in
+    let n = right (withinOf m) _ l in
+    let s = left (leb (sumOf m) limit) _ (left (withinOf m) _ l) in
+    rest-holds (placedOf r ph (c .stand .rev)) (meteredOf r ph (other m t)) (leb (sumOf m) limit && leb t limit) (payingOf r ph (m .payer)) (numbersHeld (c .side))
+    (left (placedOf r ph (c .stand .rev)) _ v) (left (payingOf r ph (m .payer)) _ n) (right (payingOf r ph (m .payer)) _ n)
+    ∙ (within-sum (meteredOf r ph (other m t)) (leb (sumOf m) limit) (leb t limit) s ∙ in-place r ph m t (left (meteredOf r ph m) _ k) s)
+
+pub nine-by-total : (c : Call) (t : ℕ) (e : Event) → validOf c ≡ true →
+    eqb (stepOf (withTotal t c) e .number) 9 ≡ not (totalFits (c .side .role) (c .stand .phase) (sumOf (c .meters)) t)
+nine-by-total c t e v = Stays.nine-exactly (withTotal t c) e ∙ ap not (valid-with c t v)
