@@ -15,7 +15,7 @@
 enum {
     LONGEST_FILE = 65536,
     DAY = 86400,       /* the longest time event */
-    YEAR = 31536000,   /* the largest sum of the meters, and the largest Duration */
+    YEAR = 31536000,   /* the largest sum of the meters, the largest total, and the largest Duration */
     RECORD_TEXT = 192, /* no record's text is longer: the line takes up to 62 bytes, O27's actions 84, 18 and 7 */
     END_TEXT = sizeof "END 16384\n" - 1,
     SHORTEST_RECORD = 4
@@ -69,6 +69,7 @@ struct call {
     enum rev rev;
     enum payer payer;
     uint32_t meter[4]; /* seconds, by payer; nobody's stay 0 */
+    uint32_t total;    /* answered seconds: the meters' sum, until a Duration sets them (D47) */
     uint8_t flags;
     uint8_t transfer; /* agreed on: in WAIT-ANSWER, WAIT-SETUP-CONF and WAIT-ACTIVE-CONF */
     uint8_t entire;   /* case C, not B: in WAIT-CALLED of an answered call */
@@ -798,7 +799,7 @@ static enum answer called_response(struct call *call, struct actions *actions, c
 
             if ((event->bits & needed) != needed)
                 return PART_ABSENT;
-            if (call->entire) { /* D47 */
+            if (call->entire) { /* D47: the meters are what the other exchange says, the total stays */
                 if (event->seconds > YEAR)
                     return TOO_MUCH;
                 call->meter[CALLED] = event->seconds;
@@ -962,12 +963,15 @@ static enum answer pass(struct call *call, uint32_t seconds)
     switch (call->phase) {
     case PHASE_SETUP: /* G2 */
         return APPLIED;
-    case PHASE_ANSWERED: /* G3; the sum is at most a year, so it can't overflow */
+    case PHASE_ANSWERED: /* G3; sum and total are at most a year each, so neither can overflow */
         if (call->payer == NOBODY)
             return NOBODY_PAYS;
         if (call->meter[CALLER] + call->meter[CALLED] + call->meter[FAR] + seconds > YEAR)
             return TOO_MUCH;
+        if (call->total + seconds > YEAR)
+            return TOO_MUCH;
         call->meter[call->payer] += seconds;
+        call->total += seconds;
         return APPLIED;
     default:
         return NO_ROW;

@@ -101,35 +101,31 @@ charged-to Far m n s h = added m n 0 0 s h Far s refl refl refl (omega arith)
 pub charged : (m n : Meters) (s : ℕ) → chargeOf m s ≡ Done n → Gave m n (m .payer) s 0
 charged m n s h = charged-to (m .payer) m n s h
 
--- the total has the seconds, the meters stay, and it is within the limit
-module _ (m n : Meters) (s : ℕ) (h : lastsOf m s ≡ Done n) where
-  lasted : (leb (m .total + s) limit ≡ true)
-      × (record { caller = m .caller; called = m .called; far = m .far; payer = m .payer; total = m .total + s } ≡ n)
-  lasted = passed _ _ n h
-
-  lasts-on : (k : Meters) (p : Payer) → Gave k m p s 0 → Gave k n p s s × (n .total ≤ limit)
-  lasts-on k p g =
-      let caller : n .caller ≡ m .caller = sym (ap (λ (x : Meters). x .caller) (lasted .1)) in
-      let called : n .called ≡ m .called = sym (ap (λ (x : Meters). x .called) (lasted .1)) in
-      let far : n .far ≡ m .far = sym (ap (λ (x : Meters). x .far) (lasted .1)) in
-      let payer : n .payer ≡ m .payer = sym (ap (λ (x : Meters). x .payer) (lasted .1)) in
-      let total : n .total ≡ m .total + s = sym (ap (λ (x : Meters). x .total) (lasted .1)) in
-      let within : m .total + s ≤ limit = leb-true _ _ (lasted .0) in (
-        record {
-          caller = caller ∙ g .caller;
-          called = called ∙ g .called;
-          far = far ∙ g .far;
-          payer = payer ∙ g .payer;
-          sum = omega (arith, caller, called, far, g .sum);
-          bound = omega (arith, caller, called, far, g .bound);
-          total = omega (arith, total, g .total);
-        },
-        omega (arith, total, within),
-      )
+-- what was charged, and then lasts: the total has the seconds, the meters stay, and the total is within the limit
+lasts-on : (k m n : Meters) (p : Payer) (s : ℕ) → Gave k m p s 0 → lastsOf m s ≡ Done n → Gave k n p s s × (n .total ≤ limit)
+lasts-on k m n p s g h =
+    let e = passed (leb (m .total + s) limit) _ n h in
+    let within : m .total + s ≤ limit = leb-true _ _ (e .0) in
+    let caller : n .caller ≡ m .caller = sym (ap (λ (x : Meters). x .caller) (e .1)) in
+    let called : n .called ≡ m .called = sym (ap (λ (x : Meters). x .called) (e .1)) in
+    let far : n .far ≡ m .far = sym (ap (λ (x : Meters). x .far) (e .1)) in
+    let payer : n .payer ≡ m .payer = sym (ap (λ (x : Meters). x .payer) (e .1)) in
+    let total : n .total ≡ m .total + s = omega (arith, ap (λ (x : Meters). x .total) (e .1)) in (
+      record {
+        caller = caller ∙ g .caller;
+        called = called ∙ g .called;
+        far = far ∙ g .far;
+        payer = payer ∙ g .payer;
+        sum = omega (arith, caller, called, far, g .sum);
+        bound = omega (arith, caller, called, far, g .bound);
+        total = omega (arith, total, g .total);
+      },
+      omega (arith, total, within),
+    )
 
 given : (x : Metered) (m n : Meters) (p : Payer) (s : ℕ) → ((k : Meters) → x ≡ Done k → Gave m k p s 0) → thenLasts x s ≡ Done n →
     Gave m n p s s × (n .total ≤ limit)
-given (Done k) m n p s g h = lasts-on k n s h m p (g k refl)
+given (Done k) m n p s g h = lasts-on m k n p s (g k refl) h
 given NoPayer m n p s g h = let z : _≡_ {A = ℕ} 0 1 = cc in absurd (omega arith)
 given TooMuch m n p s g h = let z : _≡_ {A = ℕ} 0 1 = cc in absurd (omega arith)
 
@@ -295,13 +291,13 @@ unpaid m s h = unpaid-then (chargeOf m s) (m .payer) s (unpaid-charge (m .payer)
 
 -- ---- What is not refused: what holds of all meters that were done holds of a change that fits
 
--- (beyond the meters' own fields: those that were done have the total of before)
+done-if : (P : Metered → Type 0) (b : Bool) (x : Meters) → b ≡ true → P (Done x) → P (unlessPast b x)
+done-if P b x h d = subst (λ (t : Bool). P (unlessPast t x)) (sym h) d
+
+-- (those that were done have the total of before)
 adds-fit : (P : Metered → Type 0) (m : Meters) (a b f : ℕ) → sumOf m + (a + b + f) ≤ limit →
     ((n : Meters) → n .total ≡ m .total → P (Done n)) → P (addsOf m a b f)
-adds-fit P m a b f h d =
-    subst
-    (λ (t : Bool). P (unlessPast t (record { caller = m .caller + a; called = m .called + b; far = m .far + f; payer = m .payer; total = m .total })))
-    (sym (le-leb _ _ h)) (d _ refl)
+adds-fit P m a b f h d = done-if P (leb (sumOf m + (a + b + f)) limit) _ (le-leb _ _ h) (d _ refl)
 
 charges-fit : (P : Metered → Type 0) (p : Payer) (m : Meters) (s : ℕ) → (p ≡ Nobody → ⊥) → sumOf m + s ≤ limit →
     ((n : Meters) → n .total ≡ m .total → P (Done n)) → P (chargesTo p m s)
@@ -311,10 +307,7 @@ charges-fit P Called m s h l d = adds-fit P m 0 s 0 (omega (arith, l)) d
 charges-fit P Far m s h l d = adds-fit P m 0 0 s (omega (arith, l)) d
 
 lasts-fit : (P : Metered → Type 0) (m : Meters) (s : ℕ) → m .total + s ≤ limit → ((n : Meters) → P (Done n)) → P (lastsOf m s)
-lasts-fit P m s h d =
-    subst
-    (λ (t : Bool). P (unlessPast t (record { caller = m .caller; called = m .called; far = m .far; payer = m .payer; total = m .total + s })))
-    (sym (le-leb _ _ h)) (d _)
+lasts-fit P m s h d = done-if P (leb (m .total + s) limit) _ (le-leb _ _ h) (d _)
 
 -- time that keeps the sum and the total within the limit is taken where somebody pays
 pub gives-fit : (P : Metered → Type 0) (m : Meters) (s : ℕ) → (m .payer ≡ Nobody → ⊥) → sumOf m + s ≤ limit → m .total + s ≤ limit →

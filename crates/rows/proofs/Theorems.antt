@@ -9,19 +9,19 @@ use mathlib.Core.Bool.{Bool, true, false, _&&_, not}
 use mathlib.Core.List.{List, _++_}
 use mathlib.Core.Logic.{_↔_}
 use Prim.Native.Nat.{ℕ, _+_, _≤_}
-use lib.Dec.{eqb}
+use lib.Dec.{eqb, leb}
 use Rattle.meters.specs.Meters.{sumOf}
 use Rattle.meters.specs.declared.Payer.the-variants.{Nobody}
 use Rattle.rows.specs.Bill.{bitAt, isAnswered, isRev, answered, Case, plain, marks, took, reversal, payer, bill, line}
-use Rattle.rows.specs.History.{run, history, opening}
+use Rattle.rows.specs.History.{run, written, history, opening}
 use Rattle.rows.specs.Perform.{refusedOf}
 use Rattle.rows.specs.Promises.{NothingDone, noneIs, unpaid, Answering, runs, inCall, Clears, chargedBy, placeIn, isOpening}
 use Rattle.rows.specs.Promises.{isFacility, tellsRunning, asksReversal, isInvoke, errorIs, toldRunning, sentRunning}
 use Rattle.rows.specs.Promises.{requestHasRow, invokeHasRow}
-use Rattle.rows.specs.Promises.{openingThere, secondsThere, noDuration}
+use Rattle.rows.specs.Promises.{openingThere, secondsThere, noDuration, lastedIn, withTotal, totalFits}
 use Rattle.rows.specs.Promises.{reversals, Extends, OtherDigits, Redialled, AllRedialled, Renumbered, SameAnswer, numbers}
 use Rattle.rows.specs.Promises.{takesEffect, InEffect, PassedOn, Keeps, OnlyOwn, HoldsOrClears}
-use Rattle.rows.specs.Step.{unopenedCall, stepOf}
+use Rattle.rows.specs.Step.{unopenedCall, totalOf, stepOf}
 use Rattle.rows.specs.Telephone.{absent, sameNumber}
 use Rattle.rows.specs.Valid.{inRange, numberThere, validOf, eventOk}
 use Rattle.rows.specs.declared.Call.{Call}
@@ -48,6 +48,7 @@ use Rattle.rows.proofs.Reversal
 use Rattle.rows.proofs.Running
 use Rattle.rows.proofs.SameNumbers
 use Rattle.rows.proofs.Stays
+use Rattle.rows.proofs.Totals
 use Rattle.rows.proofs.Whole
 use Rattle.rows.proofs.Whole.{Shows}
 
@@ -114,8 +115,13 @@ never-back = Phases.never-falls
 
 -- In ANSWERED, where somebody pays, a time in range that keeps the sum and the total within the limit is accepted.
 pub time-accepted : (c : Call) (s : ℕ) → validOf c ≡ true → c .stand .phase ≡ Answered → (c .meters .payer ≡ Nobody → ⊥) → s ≤ 86400 →
-    sumOf (c .meters) + s ≤ 31536000 → c .meters .total + s ≤ 31536000 → stepOf c (Time s) .number ≡ 0
+    sumOf (c .meters) + s ≤ 31536000 → totalOf c + s ≤ 31536000 → stepOf c (Time s) .number ≡ 0
 time-accepted = Progress.time-accepted
+
+-- 2 is given for any other such time, and for no other: where the sum of the meters or the total would pass the limit.
+pub time-two-exactly : (c : Call) (s : ℕ) → validOf c ≡ true → c .stand .phase ≡ Answered → (c .meters .payer ≡ Nobody → ⊥) → s ≤ 86400 →
+    eqb (stepOf c (Time s) .number) 2 ≡ not (leb (sumOf (c .meters) + s) 31536000 && leb (totalOf c + s) 31536000)
+time-two-exactly = Progress.time-two-exactly
 
 -- Each row that leads to ACTIVE does so wherever its needed parts are there and no limit is passed (`takesEffect`: the table of them).
 pub reversal-takes-effect : (c : Call) (e : Event) → validOf c ≡ true → eventOk e ≡ true → takesEffect c e ≡ true → InEffect (stepOf c e)
@@ -248,6 +254,34 @@ pub charged-by-result : (c : Call) (m : Message) → c .side .role ≡ Destinati
     stepOf c (Received m) .call .meters .payer
     ≡ chargedBy (c .side .flags .transfer && (bitAt 2 (m .parts) && bitAt 4 (m .parts))) Answered (c .meters .payer)
 charged-by-result = Clearing.charged-by-result
+
+-- ---- The answered total (02 #104). The bill looks at no total; the total is what the bill counts
+
+-- Every event keeps it true: a time event that is accepted in ANSWERED adds its seconds, and nothing else changes it, no Duration, no move
+-- of case C, no clearing and no refusal ..
+pub total-counts : (c : Call) (e : Event) → totalOf (stepOf c e .call) ≡ totalOf c + lastedIn (written c e (stepOf c e))
+total-counts = Totals.total-counts
+
+-- .. so for every originating history from an opening it is the answered seconds of the bill's definition ..
+pub total-answered : (f : ℕ) (own : Number) → (es : List Event) →
+    totalOf (run (opening f own .call) es) ≡ answered (history (opening f own .call) es)
+total-answered = Totals.total-answered
+
+-- .. and the three meters' sum ..
+pub total-is-sum : (f : ℕ) (own : Number) → opening f own .number ≡ 0 → (es : List Event) →
+    totalOf (run (opening f own .call) es) ≡ sumOf (run (opening f own .call) es .meters)
+total-is-sum = Totals.total-is-sum
+
+-- .. and for every destination history from an opening its own answered seconds, whatever Duration arrived.
+pub total-there : (f : ℕ) (own : Number) → (es : List Event) →
+    totalOf (run (openingThere f own .call) es) ≡ answered (history (openingThere f own .call) es)
+total-there = Totals.total-there
+
+-- A call with another total is none exactly if that total does not fit (`totalFits`: 0 before ANSWERED; from then on the meters' sum at the
+-- originating exchange, and at a destination anything up to the limit): every event is then answered by 9.
+pub nine-by-total : (c : Call) (t : ℕ) (e : Event) → validOf c ≡ true →
+    eqb (stepOf (withTotal t c) e .number) 9 ≡ not (totalFits (c .side .role) (c .stand .phase) (sumOf (c .meters)) t)
+nine-by-total = Totals.nine-by-total
 
 -- ---- Digits decide nothing, and neither does the nature
 

@@ -1,4 +1,4 @@
--- 01, "Calls to try": the histories marked P, as theorems about the definition; the second press of 02 #101; and calls that only a host
+-- 01, "Calls to try": the histories marked P, as theorems about the definition; the second press of 02 #101, the totals of 02 #104; and calls that only a host
 -- hands in. Each computes.
 -- Assumes nothing.
 use Prim.Native.Nat.{ℕ, _+_}
@@ -12,8 +12,9 @@ use Rattle.rows.specs.Numbers.{basicServiceNotProvided}
 use Rattle.rows.specs.Numbers.{alreadyRunning, normalClearing, facilityRejected, noPart, transferPart, partialPart, callingPart}
 use Rattle.rows.specs.Numbers.{calledPart, durationPart, agreedParts}
 use Rattle.rows.specs.Perform.{at}
+use Rattle.rows.specs.Promises.{withTotal}
 use Rattle.rows.specs.Read.{flagsOf}
-use Rattle.rows.specs.Step.{unopenedCall, stepOf, Deed, does, tells, sends, deedsOf}
+use Rattle.rows.specs.Step.{unopenedCall, totalOf, stepOf, Deed, does, tells, sends, deedsOf}
 use Rattle.rows.specs.Telephone.{absent}
 use Rattle.rows.specs.declared.Act.the-variants.{NotifyAccepted, AccessSetup, AccessAsk, AccessError, AccessRel, ChargeCalling}
 use Rattle.rows.specs.declared.Act.the-variants.{ChargeCalled, Stop}
@@ -211,6 +212,57 @@ year-and-a-second = refl
 -- expiry in IDLE gives 1
 idle-expiry : run (talked 40) (Expiry ∷ []) ≡ line 1 Answered Idle 40 0 0 [] ∷ []
 idle-expiry = refl
+
+-- ---- The answered total, 02 #104
+
+-- 40 s, an invoke from the called side, 20 s, and the caller clears
+abbrev lasted : ℕ → ℕ → Number → ℕ
+lasted flags parts called =
+    totalOf (after (talkedWith flags 40) (Received (message fac 0 (Invoke calledRequest) parts absent called 0) ∷ Time 20 ∷ FromAccess 4 0 ∷ []))
+
+-- case C without transfer and with it, case B: 60 s were answered, whoever pays them, and the cleared call keeps them
+sixty-answered : (lasted 8 calledPart room ≡ 60) × (lasted 9 transferPart absent ≡ 60) × (lasted 8 (partialPart + calledPart) room ≡ 60)
+sixty-answered = (refl, refl, refl)
+
+-- a destination in ANSWERED, with transfer, whose far meter and total have so many seconds
+abbrev served : RevState → ℕ → ℕ → Call
+served state far total =
+    record {
+      side = record { role = Role.Destination; flags = flagsOf 9; own = room; calling = absent; called = absent };
+      stand = at Answered state false false;
+      meters = record { caller = 0; called = 0; far = far; payer = Payer.Far; total = total };
+    }
+
+-- the result to case C, with transfer
+abbrev result : ℕ → Event
+result duration = Received (message fac 0 (Result calledRequest) (agreedParts + callingPart + durationPart) room absent duration)
+
+-- "that exchange's own answered seconds, whatever Duration arrived": 40 s, Duration 35 or 99, 20 s
+own-seconds : (totalOf (after (served WaitCalled 40 40) (result 35 ∷ Time 20 ∷ [])) ≡ 60)
+    × (totalOf (after (served WaitCalled 40 40) (result 99 ∷ Time 20 ∷ [])) ≡ 60)
+own-seconds = (refl, refl)
+
+-- "2 also where the total would pass that limit": total 31,536,000 and Duration 0; then no second is left
+full : run (served WaitCalled 31536000 31536000) (result 0 ∷ Time 0 ∷ Time 1 ∷ [])
+    ≡ line 0 Answered Active 0 0 0 (does ChargeCalled ∷ does NotifyAccepted ∷ [])
+    ∷ line 0 Answered Active 0 0 0 []
+    ∷ line 2 Answered Active 0 0 0 []
+    ∷ []
+full = refl
+
+-- what an expiry is answered in IDLE, where the call holds this total: 1, it has no row; or 9
+abbrev expiry-with : ℕ → Call → ℕ
+expiry-with t c = stepOf (withTotal t c) Expiry .number
+
+-- the caller has used up 40 s: the total is 40; before the answer it is 0
+differs : (expiry-with 39 (talked 40) ≡ 9) × (expiry-with 40 (talked 40) ≡ 1) × (expiry-with 41 (talked 40) ≡ 9)
+    × (expiry-with 1 (after unopenedCall (Opening 1 8 room ∷ [])) ≡ 9)
+differs = (refl, refl, refl, refl)
+
+-- a destination's is not compared with its meters, but it has the limit
+own-limit : (expiry-with 7 (served Idle 40 40) ≡ 1) × (expiry-with 31536000 (served Idle 40 40) ≡ 1)
+    × (expiry-with 31536001 (served Idle 40 40) ≡ 9)
+own-limit = (refl, refl, refl)
 
 -- ---- National and international, 02 #103
 

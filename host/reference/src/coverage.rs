@@ -1,8 +1,10 @@
-//! Counts how often each row and each number was reached, and each form of a telephone number.
+//! Counts how often each row and each number was reached, each form of a telephone number, and each way in which the
+//! total and the sum of the meters stand to the limit and to each other.
 
 use crate::listing::{Listing, Reached};
-use crate::model::{self, events, Digits, Given, Row};
+use crate::model::{self, events, Digits, Given, Row, YEAR};
 use crate::write::{part, Event, Nature, Number};
+use std::cmp::Ordering;
 use std::collections::BTreeMap;
 use std::fmt::Write;
 
@@ -76,12 +78,50 @@ fn numbers(event: &Event) -> Vec<(&'static str, Number)> {
     }
 }
 
+/// Time that is refused with 2, or after which nothing more fits, by what is full; and in case C the Duration that the
+/// meters are set to. That the total is kept apart from the meters (02 #104) is seen only where one of the two is full
+/// alone.
+const TOTALS: [&str; 9] = [
+    "G3 gives 2 by sum and total",
+    "G3 gives 2 by the sum alone",
+    "G3 gives 2 by the total alone",
+    "G3 leaves sum and total full",
+    "G3 leaves the sum alone full",
+    "G3 leaves the total alone full",
+    "D47 with less than the total",
+    "D47 with the total",
+    "D47 with more than the total",
+];
+
+/// The place in `TOTALS` of what a record reached.
+fn of_totals(reached: &Reached) -> Option<usize> {
+    let (sum, total) = (reached.sum, reached.total);
+    let by = |of_sum: bool, of_total: bool| match (of_sum, of_total) {
+        (true, true) => Some(0),
+        (true, false) => Some(1),
+        (false, true) => Some(2),
+        (false, false) => None,
+    };
+    let year = u64::from(YEAR);
+    match (reached.row?, reached.given) {
+        (Row::G(3), Given::TooMuch) => by(sum > year, total > year),
+        (Row::G(3), Given::Applied) => by(sum == year, total == year).map(|place| 3 + place),
+        (Row::D(47), Given::Applied) => Some(match sum.cmp(&total) {
+            Ordering::Less => 6,
+            Ordering::Equal => 7,
+            Ordering::Greater => 8,
+        }),
+        _ => None,
+    }
+}
+
 pub struct Coverage {
     applied: [u64; ROWS],
     absent: [u64; ROWS],
     too_much: [u64; ROWS],
     after_second_press: [u64; ROWS],
     numbers: [u64; 11],
+    totals: [u64; TOTALS.len()],
     /// by what the number is, and by its form
     forms: BTreeMap<(&'static str, &'static str), u64>,
     /// by the place of the row, by the part, and by whether it is international; what a row sends is sent with both natures
@@ -115,6 +155,7 @@ impl Coverage {
             too_much: [0; ROWS],
             after_second_press: [0; ROWS],
             numbers: [0; 11],
+            totals: [0; TOTALS.len()],
             forms: FIELDS.iter().flat_map(|field| FORMS.map(|form| ((*field, form), 0))).collect(),
             sent: BTreeMap::new(),
             files: 0,
@@ -135,6 +176,9 @@ impl Coverage {
             self.numbers[given as usize] += 1;
             let Some(row) = reached.row else { continue };
             self.count_sent(row, reached);
+            if let Some(place) = of_totals(reached) {
+                self.totals[place] += 1;
+            }
             match given {
                 Given::Applied => {
                     self.applied[place(row)] += 1;
@@ -170,8 +214,8 @@ impl Coverage {
         }
     }
 
-    /// Everything that histories can reach, with its count: rows, numbers, rows with the number they can give, and telephone numbers
-    /// as they are read and as they are sent.
+    /// Everything that histories can reach, with its count: rows, numbers, rows with the number they can give, the total
+    /// beside the sum of the meters, and telephone numbers as they are read and as they are sent.
     fn all(&self) -> Vec<(String, u64)> {
         let rows = self.applied.iter().enumerate().map(|(place, &count)| (label(place), count));
         let numbers = NUMBERS.map(|number| (format!("number {number}"), self.numbers[number]));
@@ -179,6 +223,7 @@ impl Coverage {
         let too_much = SUMMING.map(|row| (format!("{} gives 2", label(place(row))), self.too_much[place(row)]));
         let ended = ENDING
             .map(|row| (format!("{} after a second press", label(place(row))), self.after_second_press[place(row)]));
+        let totals = TOTALS.into_iter().zip(self.totals).map(|(name, count)| (name.to_string(), count));
         let forms = self.forms.iter().map(|((field, form), &count)| (format!("{field} {form}"), count));
         let sent = self.sent.iter().flat_map(|((place, part), counts)| {
             ["digits", "+digits"].into_iter().zip(counts).map(move |(form, &count)| {
@@ -186,7 +231,7 @@ impl Coverage {
                 (format!("{row} sends {part} {form}"), count)
             })
         });
-        rows.chain(numbers).chain(absent).chain(too_much).chain(ended).chain(forms).chain(sent).collect()
+        rows.chain(numbers).chain(absent).chain(too_much).chain(totals).chain(ended).chain(forms).chain(sent).collect()
     }
 
     /// What was never reached.

@@ -29,6 +29,7 @@ pub fn file(seed: u64, ordinal: u64) -> Vec<u8> {
             bytes
         }
         170..=199 => pressed_again(random),
+        200..=204 => another_duration(random),
         _ => history(random),
     }
 }
@@ -70,6 +71,12 @@ impl<'r> Writer<'r> {
             }
         };
         self.push(record);
+    }
+
+    fn days(&mut self, count: u64) {
+        for _ in 0..count {
+            self.push(fields::time(DAY));
+        }
     }
 
     fn open(&mut self) {
@@ -119,11 +126,9 @@ fn a_year(random: &mut Random) -> Vec<u8> {
         }
         runs -= 1;
         // All whole days that are left, or some of them if another run comes.
-        let left = seconds_left(&writer.call) / DAY;
-        let part = if runs > 0 { writer.random.below(u64::from(left) + 1) as u32 } else { left };
-        for _ in 0..part {
-            writer.push(fields::time(DAY));
-        }
+        let left = u64::from(seconds_left(&writer.call) / DAY);
+        let part = if runs > 0 { writer.random.below(left + 1) } else { left };
+        writer.days(part);
         let left = seconds_left(&writer.call);
         let near = [left, left.saturating_add(1), left.saturating_sub(1), 0, 1, DAY];
         for _ in 0..3 {
@@ -155,9 +160,42 @@ fn pressed_again(random: &mut Random) -> Vec<u8> {
     writer.bytes
 }
 
-/// What the meters can still take.
+/// A history of a destination in case C with transfer in which about a year passes, before and while the response is
+/// waited for, and after it. Its Duration mostly says another number of seconds than were counted here, so that in the
+/// end the total is full and the meters are not, or the meters are and the total is not.
+fn another_duration(random: &mut Random) -> Vec<u8> {
+    let own = random.number();
+    let mut writer = Writer::new(random);
+    writer.push(fields::opening_of(1, flag::INTERACTION | flag::TRANSFER, own));
+    writer.draw(wanted::plain_iam);
+    writer.draw(wanted::time);
+    writer.draw(wanted::answer);
+    let days = writer.random.below(u64::from(YEAR / DAY) + 1);
+    let waiting = writer.random.below(days + 1);
+    writer.days(days - waiting);
+    writer.draw(wanted::time);
+    writer.draw(wanted::entire_call);
+    writer.days(waiting);
+    let total = writer.call.total;
+    let any = writer.random.duration();
+    let duration = writer.random.pick(&[0, 1, total.saturating_sub(1), total, total, total + 1, YEAR, any]);
+    let result = wanted::entire_call_accepted(writer.random, duration);
+    writer.push(result);
+    let left = seconds_left(&writer.call);
+    writer.days(u64::from(left / DAY));
+    let left = left % DAY;
+    for seconds in [left + 1, left, 1, 0] {
+        writer.push(fields::time(seconds));
+    }
+    for _ in 0..4 {
+        writer.step();
+    }
+    writer.bytes
+}
+
+/// What the meters and the total can still take.
 fn seconds_left(call: &Call) -> u32 {
-    YEAR - (call.caller + call.called + call.far)
+    YEAR - call.total.max(call.caller + call.called + call.far)
 }
 
 /// A file of about 65,536 bytes, just that many, or a little more.

@@ -2,7 +2,7 @@
 
 use crate::model::events::LONGEST_FILE;
 use crate::model::{
-    Action, Component, Digits, Given, History, Message, Name, Nature, Operation, Phase, Rev, Row, Shown,
+    Action, Answer, Component, Digits, Event, Given, History, Message, Name, Nature, Operation, Phase, Rev, Row, Shown,
 };
 use std::io::Write;
 
@@ -18,18 +18,33 @@ pub struct Listing {
     pub reached: Vec<Reached>,
 }
 
-/// Of a record its number, the row it was judged by, and the numbers that were sent.
+/// Of a record its number, the row it was judged by, the numbers that were sent, and the sum of the meters and the
+/// total after it. Where 2 was given for time, these are what they would have been.
 pub struct Reached {
     pub given: Given,
     pub row: Option<Row>,
     pub calling: Option<Digits>,
     pub called: Option<Digits>,
+    pub sum: u64,
+    pub total: u64,
 }
 
 impl Reached {
     fn by(shown: &Shown) -> Reached {
-        let mut reached = Reached { given: shown.answer.given, row: shown.answer.row, calling: None, called: None };
-        for action in &shown.answer.actions {
+        let Answer { given, row, call, actions } = &shown.answer;
+        let refused = match (given, shown.event) {
+            (Given::TooMuch, Some(Event::Time(seconds))) => u64::from(seconds),
+            _ => 0,
+        };
+        let mut reached = Reached {
+            given: *given,
+            row: *row,
+            calling: None,
+            called: None,
+            sum: call.sum() + refused,
+            total: u64::from(call.total) + refused,
+        };
+        for action in actions {
             if let Action::Send(message) = action {
                 reached.calling = reached.calling.or(message.parts.calling);
                 reached.called = reached.called.or(message.parts.called);

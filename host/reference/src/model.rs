@@ -12,7 +12,8 @@ mod originating;
 
 pub use events::{Access, Ask, Component, Digits, Event, Message, Name, Nature, Operation, Parts, Role};
 
-/// 01, "Numbers given back", 2: what the sum of the meters, or a Duration that a row uses, may not pass.
+/// 01, "Numbers given back", 2: what the sum of the meters, or a Duration that a row uses, may not pass; and 02 #104:
+/// "2 also where the total would pass that limit".
 pub const YEAR: u32 = 31_536_000;
 
 /// 01, "The event file", kind 1: the flags of an opening.
@@ -110,7 +111,7 @@ pub enum Payer {
     Far,
 }
 
-/// A call. Meters are in seconds.
+/// A call. Meters and total are in seconds.
 #[derive(Clone, Copy, PartialEq, Eq, Debug)]
 pub struct Call {
     pub role: Role,
@@ -122,6 +123,9 @@ pub struct Call {
     pub caller: u32,
     pub called: u32,
     pub far: u32,
+    /// 02 #104, "Store the answered seconds in the call": at the originating exchange "it equals the three meters'
+    /// sum", at the destination "it is that exchange's own answered seconds, whatever Duration arrived".
+    pub total: u32,
 }
 
 /// A line of the table of rows: G in both roles, O at the originating, D at the destination exchange.
@@ -226,6 +230,24 @@ impl Call {
             caller: 0,
             called: 0,
             far: 0,
+            total: 0,
+        }
+    }
+
+    /// What is wrong with the total of a call in whose history so many seconds were answered: "Every event keeps it
+    /// true" (02 #104), and no event leads to a call that would get 9.
+    fn wrong_total(&self, answered: u64) -> Option<&'static str> {
+        let total = u64::from(self.total);
+        if total != answered {
+            Some("is not the answered seconds")
+        } else if self.role == Role::Originating && total != self.sum() {
+            Some("is not the sum of the originating meters")
+        } else if total > u64::from(YEAR) {
+            Some("is above a year")
+        } else if total > 0 && !matches!(self.phase, Phase::Answered | Phase::Cleared) {
+            Some("is above 0 before the answer")
+        } else {
+            None
         }
     }
 
@@ -261,7 +283,8 @@ impl Call {
         Step { row, call: self, actions: Vec::new() }
     }
 
-    fn sum(&self) -> u64 {
+    /// The three meters' sum.
+    pub fn sum(&self) -> u64 {
         u64::from(self.caller) + u64::from(self.called) + u64::from(self.far)
     }
 
@@ -317,28 +340,32 @@ impl Call {
         }
     }
 
-    /// Time in ANSWERED: one meter "runs and takes all seconds of a time event".
+    /// Time in ANSWERED: one meter "runs and takes all seconds of a time event", and they are answered seconds.
     fn pass(self, seconds: u32) -> Found {
         let mut step = self.row(Row::G(3));
         let sum = self.sum() + u64::from(seconds);
+        let total = u64::from(self.total) + u64::from(seconds);
         let meter = match self.payer {
             Payer::Nobody => return Err(Refusal::NobodyPays(Row::G(3))),
             Payer::Caller => &mut step.call.caller,
             Payer::Called => &mut step.call.called,
             Payer::Far => &mut step.call.far,
         };
-        if sum > u64::from(YEAR) {
+        // After a Duration the two differ at a destination, either way.
+        if sum > u64::from(YEAR) || total > u64::from(YEAR) {
             return Err(Refusal::TooMuch(Row::G(3)));
         }
         *meter += seconds;
+        step.call.total += seconds;
         Ok(step)
     }
 }
 
-/// One record of a file with what it did.
+/// One record of a file with what it did. There is no event where the framing or a field is bad.
 #[derive(Clone, PartialEq, Eq, Debug)]
 pub struct Shown {
     pub ordinal: u32,
+    pub event: Option<Event>,
     pub answer: Answer,
 }
 
@@ -347,11 +374,23 @@ pub struct History<'a> {
     file: &'a [u8],
     call: Call,
     shown: u32,
+    /// The answered seconds by the records alone: those of the time events accepted in ANSWERED since the opening.
+    answered: u64,
 }
 
 impl<'a> History<'a> {
     pub fn new(file: &'a [u8]) -> History<'a> {
-        History { file, call: Call::before_opening(), shown: 0 }
+        History { file, call: Call::before_opening(), shown: 0, answered: 0 }
+    }
+
+    /// Counts the answered seconds, without a look at the call's meters and total.
+    fn count(&mut self, event: &Event, answer: &Answer) {
+        match event {
+            _ if answer.given != Given::Applied => {}
+            Event::Opening { .. } => self.answered = 0,
+            Event::Time(seconds) if self.call.phase == Phase::Answered => self.answered += u64::from(*seconds),
+            _ => {}
+        }
     }
 }
 
@@ -362,23 +401,32 @@ impl Iterator for History<'_> {
         if self.file.is_empty() {
             return None;
         }
-        let answer = match events::frame(self.file) {
+        let unread = |given| Answer { given, row: None, call: self.call, actions: Vec::new() };
+        let (event, answer) = match events::frame(self.file) {
             // 5, and 6 and 7 as 5: "reading stops here".
             Err(given) => {
                 self.file = &[];
-                Answer { given, row: None, call: self.call, actions: Vec::new() }
+                (None, unread(given))
             }
             Ok(record) => {
                 self.file = &self.file[record.size()..];
                 match record.event() {
-                    None => Answer { given: Given::OutOfRange, row: None, call: self.call, actions: Vec::new() },
-                    Some(event) => self.call.answer(&event),
+                    None => (None, unread(Given::OutOfRange)),
+                    Some(event) => {
+                        let answer = self.call.answer(&event);
+                        self.count(&event, &answer);
+                        (Some(event), answer)
+                    }
                 }
             }
         };
         self.call = answer.call;
         self.shown += 1;
-        Some(Shown { ordinal: self.shown, answer })
+        // No listing shows the total, so nothing else would tell.
+        if let Some(wrong) = self.call.wrong_total(self.answered) {
+            panic!("record {}: the total {wrong}: {:?}", self.shown, self.call);
+        }
+        Some(Shown { ordinal: self.shown, event, answer })
     }
 }
 
@@ -430,7 +478,8 @@ mod tests {
             let Action::Send(result) = sent else { panic!("{sent:?}") };
             let carries = parts.transfer_requested && !parts.partial;
             assert_eq!(result.parts.duration, carries.then_some(40), "the duration before the meter is emptied");
-            assert_eq!(meters(after(asked.call, &[Event::Time(20)])), expected);
+            let call = after(asked.call, &[Event::Time(20)]);
+            assert_eq!((meters(call), call.total), (expected, 60));
         }
     }
 
@@ -452,7 +501,7 @@ mod tests {
         for _ in 0..365 {
             call = after(call, &[Event::Time(86_400)]);
         }
-        assert_eq!(call.caller, YEAR);
+        assert_eq!((call.caller, call.total), (YEAR, YEAR));
         assert_eq!(call.answer(&Event::Time(0)).given, Given::Applied);
         let past = call.answer(&Event::Time(1));
         assert_eq!((past.given, past.call), (Given::TooMuch, call));
@@ -507,11 +556,82 @@ mod tests {
         }
     }
 
+    /// A destination's call in WAIT-CALLED of case C with transfer, after so many seconds in ANSWERED.
+    fn asked_after(seconds: u32) -> Call {
+        let mut call = after(opened(Role::Destination, 9), &[plain(Name::Iam), Event::Access(Access::Answer)]);
+        for _ in 0..seconds / 86_400 {
+            call = after(call, &[Event::Time(86_400)]);
+        }
+        after(call, &[Event::Time(seconds % 86_400), Event::Ask(Ask::C)])
+    }
+
+    /// The result that such a call waits for.
+    fn result_with(duration: u32) -> Event {
+        let calling = Some(Digits { nature: Nature::National, count: 2, value: 1 });
+        let duration = Some(duration);
+        let parts = Parts { transfer_accepted: true, as_transfer: true, calling, duration, ..Parts::default() };
+        message(Name::Fac, Component::Result(Operation::Called), parts)
+    }
+
+    /// 02 #104: the answered seconds alone, "whatever Duration arrived"; a cleared call keeps them.
+    #[test]
+    fn the_total_is_what_was_answered() {
+        let early = [plain(Name::Iam), Event::Time(86_400), Event::Access(Access::Answer), Event::Time(5)];
+        assert_eq!(after(opened(Role::Destination, 9), &early).total, 5);
+        for duration in [0, 99, 100, 101, YEAR - 7, YEAR] {
+            let call = after(asked_after(100), &[result_with(duration)]);
+            assert_eq!((meters(call), call.total), ((0, duration, 0), 100));
+            let seconds = if duration == YEAR { 0 } else { 7 };
+            let call = after(call, &[Event::Time(seconds), Event::Access(Access::Clear)]);
+            assert_eq!((meters(call), call.total), ((0, duration + seconds, 0), 100 + seconds));
+        }
+    }
+
+    /// 02 #104: "2 also where the total would pass that limit", with meters that a Duration has all but emptied; and
+    /// still by the sum, where a Duration has filled the meters. A refusal changes nothing.
+    #[test]
+    fn a_year_by_the_total_or_by_the_sum() {
+        for (before, duration, left) in [
+            (YEAR, 0, 0),
+            (YEAR, 40, 0),
+            (YEAR - 1, 0, 1),
+            (YEAR - 86_399, 5, 86_399),
+            (YEAR - 6, YEAR - 5, 5),
+            (0, YEAR, 0),
+            (40, YEAR - 3, 3),
+        ] {
+            let call = after(asked_after(before), &[result_with(duration)]);
+            let past = call.answer(&Event::Time(left + 1));
+            assert_eq!((past.given, past.call), (Given::TooMuch, call), "{before} seconds and Duration {duration}");
+            let full = after(call, &[Event::Time(left)]);
+            assert_eq!((meters(full), full.total), ((0, duration + left, 0), before + left));
+            assert_eq!(full.answer(&Event::Time(1)).given, Given::TooMuch);
+            assert_eq!(full.answer(&Event::Time(0)).given, Given::Applied);
+        }
+    }
+
+    /// Each total that is another than it should be is told, also one that the seconds seem to bear out.
+    #[test]
+    fn wrong_totals() {
+        let basic = [Event::Ask(Ask::Basic), plain(Name::Anm), Event::Time(5), Event::Access(Access::Clear)];
+        let originating = after(opened(Role::Originating, 0), &basic);
+        let destination = after(asked_after(5), &[result_with(3)]);
+        let ringing = after(opened(Role::Destination, 0), &[plain(Name::Iam)]);
+        let wrong = |call: Call, total: u32, answered: u32| Call { total, ..call }.wrong_total(u64::from(answered));
+        assert_eq!([wrong(originating, 5, 5), wrong(destination, 5, 5), wrong(ringing, 0, 0)], [None; 3]);
+        assert_eq!([wrong(destination, YEAR, YEAR), wrong(destination, 3, 3)], [None; 2], "the meters play no part");
+        assert_eq!(wrong(originating, 5, 6), Some("is not the answered seconds"));
+        assert_eq!(wrong(destination, 3, 5), Some("is not the answered seconds"));
+        assert_eq!(wrong(originating, 6, 6), Some("is not the sum of the originating meters"));
+        assert_eq!(wrong(destination, YEAR + 1, YEAR + 1), Some("is above a year"));
+        assert_eq!(wrong(ringing, 1, 1), Some("is above 0 before the answer"));
+    }
+
     /// 10 is a host's alone, but the order puts it before 2.
     #[test]
     fn nobody_pays() {
         let call = after(opened(Role::Originating, 0), &[Event::Ask(Ask::Basic), plain(Name::Anm)]);
-        let made_up = Call { payer: Payer::Nobody, far: YEAR, ..call };
+        let made_up = Call { payer: Payer::Nobody, far: YEAR, total: YEAR, ..call };
         assert_eq!(made_up.answer(&Event::Time(1)).given, Given::NobodyPays);
     }
 }

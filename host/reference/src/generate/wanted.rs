@@ -297,6 +297,28 @@ pub fn plain_iam(random: &mut Random) -> Vec<u8> {
     make(random, Say(IAM, PLAIN, 0))
 }
 
+/// The called user's answer without REV.
+pub fn answer(random: &mut Random) -> Vec<u8> {
+    make(random, Access(ANSWER))
+}
+
+pub fn time(random: &mut Random) -> Vec<u8> {
+    make(random, Time)
+}
+
+/// The called user's request C.
+pub fn entire_call(random: &mut Random) -> Vec<u8> {
+    make(random, Ask(3))
+}
+
+/// The result that such a request in transfer mode waits for, with this Duration.
+pub fn entire_call_accepted(random: &mut Random, duration: u32) -> Vec<u8> {
+    let mut record = fields::message(random, FAC, RESULT, CALLED, 2 | 4 | 16 | 64);
+    let place = record.len() - 4;
+    record[place..].copy_from_slice(&duration.to_le_bytes());
+    record
+}
+
 /// The called user's request B or C.
 pub fn first_press(random: &mut Random) -> Vec<u8> {
     let want = random.pick(&[Ask(2), Ask(3)]);
