@@ -1,7 +1,7 @@
 -- The meters of a call: what each change of them gives (01, "States and payers"), and its answered total (02 #104).
 -- Assumes nothing.
 use Prim.Native.Nat.{ℕ, _+_}
-use mathlib.Core.Bool.{Bool, true, false, _&&_}
+use mathlib.Core.Bool.{Bool, true, false}
 use lib.Dec.{leb, eqb}
 use Rattle.meters.specs.declared.Payer.{Payer}
 use Rattle.meters.specs.declared.Payer.the-variants.{Nobody, Caller, Called, Far}
@@ -24,7 +24,10 @@ abbrev pub sumOf : Meters → ℕ
 sumOf m = m .caller + m .called + m .far
 
 abbrev pub withinOf : Meters → Bool
-withinOf m = leb (sumOf m) limit && leb (m .total) limit
+withinOf m = leb (sumOf m) limit
+
+abbrev pub totalWithinOf : Meters → Bool
+totalWithinOf m = leb (m .total) limit
 
 -- 02 #104: the total "equals the three meters' sum"
 abbrev pub addsUpOf : Meters → Bool

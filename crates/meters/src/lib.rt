@@ -2,8 +2,8 @@
 // A meter counts the seconds that somebody pays; the total counts those that passed in the answered call, whoever pays them, so that
 // neither a Duration received nor a move between meters touches it. Nothing here knows of roles, messages or prices.
 ghost use mathlib.Core.Path.{_≡_};
-ghost use Rattle.meters.specs.Meters.{newOf, withinOf, addsUpOf, paidByOf, addsOf, chargeOf, lastsOf, giveOf, entireOf, receivedOf};
-ghost use Rattle.meters.specs.Meters.{changeOf};
+ghost use Rattle.meters.specs.Meters.{newOf, withinOf, totalWithinOf, addsUpOf, paidByOf, addsOf, chargeOf, lastsOf, giveOf};
+ghost use Rattle.meters.specs.Meters.{entireOf, receivedOf, changeOf};
 
 // 01, number 2: no sum of meters, and no Duration that a row uses, may pass this many seconds; 02 #104: nor may the total.
 const LIMIT: u64 = 31536000;
@@ -58,12 +58,18 @@ impl Meters {
         }
     }
 
-    // The sum of the meters and the total are within the limit.
+    // The sum of the meters is within the limit.
     pub fn within(self) -> bool
         ensures { λ out. ⌜ out ≡ withinOf self ⌝ }
     {
-        let sum = (self.caller as u64) + (self.called as u64) + (self.far as u64);
-        (sum <= LIMIT) & ((self.total as u64) <= LIMIT)
+        (self.caller as u64) + (self.called as u64) + (self.far as u64) <= LIMIT
+    }
+
+    // The total is within the limit.
+    pub fn total_within(self) -> bool
+        ensures { λ out. ⌜ out ≡ totalWithinOf self ⌝ }
+    {
+        (self.total as u64) <= LIMIT
     }
 
     // The three meters add up to the total.

@@ -7,7 +7,7 @@ use native.Mathlib.Omega.{arith}
 use lib.Dec.{eqb, leb}
 use borrow.Author.Tests.{eqb-true, leb-true, le-leb}
 use Rattle.meters.proofs.Laws.{fits, gave-fits, too-much, unpaid, gives-fit, entire-fits, duration-fits}
-use Rattle.meters.specs.Meters.{limit, sumOf, withinOf, giveOf}
+use Rattle.meters.specs.Meters.{limit, sumOf, giveOf}
 use Rattle.meters.specs.declared.Metered.{Metered}
 use Rattle.meters.specs.declared.Metered.the-variants.{Done, NoPayer, TooMuch}
 use Rattle.meters.specs.declared.Meters.{Meters}
@@ -58,7 +58,7 @@ valid-metered c v = left _ _ (right (placedOf (c .side .role) (c .stand .phase) 
 valid-sum : (c : Call) → validOf c ≡ true → sumOf (c .meters) ≤ limit
 valid-sum c v =
     leb-true (sumOf (c .meters)) limit
-    (left _ _ (left (withinOf (c .meters)) _ (right (meteredOf (c .side .role) (c .stand .phase) (c .meters)) _ (right (placedOf (c .side .role) (c .stand .phase) (c .stand .rev)) _ v))))
+    (left _ _ (right (meteredOf (c .side .role) (c .stand .phase) (c .meters)) _ (right (placedOf (c .side .role) (c .stand .phase) (c .stand .rev)) _ v)))
 
 somebody : (t : Bool) → turnedTo t ≡ Nobody → ⊥
 somebody true z = let n : _≡_ {A = ℕ} 0 1 = cc in omega arith
@@ -265,7 +265,7 @@ module _ (f : Flags) (a b : Bool) (mt : Meters) (u v w : Number) where
     by-message Originating Setup rv k h = in-setup rv h
     by-message Destination Setup rv k h = differ h
     by-message Originating Answered rv k h = in-answered (valid-sum (standing Originating f Answered rv a b mt u v w) k) rv h
-    by-message Destination Answered rv k h = at-the-called (eqb-true (mt .caller) 0 (valid-metered (standing Destination f Answered rv a b mt u v w) k)) rv h
+    by-message Destination Answered rv k h = at-the-called (eqb-true (mt .caller) 0 (left (eqb (mt .caller) 0) _ (valid-metered (standing Destination f Answered rv a b mt u v w) k))) rv h
     by-message r Cleared rv k h = differ h
 
   -- what the own access tells

@@ -4,13 +4,13 @@
 use mathlib.Core.Path.{_≡_, refl, sym, _∙_, ap, subst}
 use mathlib.Core.Bool.{Bool, true, false, _&&_, _||_, not}
 use mathlib.Core.List.{List, [], _∷_}
-use Prim.Native.Nat.{ℕ}
+use Prim.Native.Nat.{ℕ, _≤_}
 use native.Mathlib.Omega.{arith}
 use lib.Dec.{eqb, leb}
-use borrow.Author.Tests.{eqb-true, eq-eqb, le-leb}
+use borrow.Author.Tests.{eqb-true, eq-eqb, le-leb, leb-true}
 use Rattle.meters.proofs.Laws
 use Rattle.meters.proofs.Laws.{Gave, gave, gave-within, moved, received}
-use Rattle.meters.specs.Meters.{limit, sumOf, withinOf, addsUpOf, paidByOf, giveOf, entireOf, receivedOf, changeOf}
+use Rattle.meters.specs.Meters.{limit, sumOf, withinOf, paidByOf, giveOf, entireOf, receivedOf, changeOf}
 use Rattle.meters.specs.declared.Change.{Change}
 use Rattle.meters.specs.declared.Change.the-variants.{Keep, CallerPays, CalledPays, FarPays, NobodyPays, EntireToCalled, EntireToFar}
 use Rattle.meters.specs.declared.Change.the-variants.{TimePasses, DurationReceived}
@@ -158,27 +158,29 @@ empty m h =
       total = eqb-true _ _ (right (eqb (m .caller) 0 && eqb (m .called) 0 && eqb (m .far) 0) _ h);
     }
 
--- at the originating exchange the total is the meters' sum; the caller's meter of a destination is 0
+-- at the originating exchange the total is the meters' sum; a destination has no caller's seconds, and its total the limit
 adds-up : (m : Meters) → sumOf m ≡ m .total → tallied Originating m ≡ true
 adds-up m e = eq-eqb _ _ e
 
-no-caller : (m : Meters) → m .caller ≡ 0 → tallied Destination m ≡ true
-no-caller m e = eq-eqb _ _ e
+no-caller : (m : Meters) → m .caller ≡ 0 → m .total ≤ limit → tallied Destination m ≡ true
+no-caller m e l = both (eq-eqb _ _ e) (le-leb _ _ l)
+
+caller-none : (m : Meters) → tallied Destination m ≡ true → m .caller ≡ 0
+caller-none m h = eqb-true _ _ (left (eqb (m .caller) 0) _ h)
+
+total-held : (m : Meters) → tallied Destination m ≡ true → m .total ≤ limit
+total-held m h = leb-true _ _ (right (eqb (m .caller) 0) _ h)
 
 in-order : (r : Role) (t : Age) (m : Meters) → meteredIn r t m ≡ true → tallied r m ≡ true
 in-order Originating before m h = let z = empty m h in adds-up m (omega (arith, z .caller, z .called, z .far, z .total))
-in-order Destination before m h = no-caller m (empty m h .caller)
+in-order Destination before m h = let z = empty m h in no-caller m (z .caller) (omega (arith, z .total))
 in-order r talking m h = h
 in-order r over m h = h
 
 -- which stays where neither sum nor total changes, and no caller's second comes
 same-tally : (r : Role) (m n : Meters) → n .caller ≡ 0 → sumOf n ≡ sumOf m → n .total ≡ m .total → tallied r m ≡ true → tallied r n ≡ true
 same-tally Originating m n c s t h = let e : sumOf m ≡ m .total = eqb-true _ _ h in adds-up n (omega (arith, s, t, e))
-same-tally Destination m n c s t h = no-caller n c
-
--- the limits stay with the sum and the total
-same-within : (m n : Meters) → sumOf n ≡ sumOf m → n .total ≡ m .total → withinOf m ≡ true → withinOf n ≡ true
-same-within m n s t h = ap (λ (x : ℕ). leb x limit && leb (n .total) limit) s ∙ (ap (λ (x : ℕ). leb (sumOf m) limit && leb x limit) t ∙ h)
+same-tally Destination m n c s t h = no-caller n c (omega (arith, t, total-held m h))
 
 -- which changes of the meters keep that
 abbrev isBefore : Age → Bool
@@ -247,16 +249,16 @@ not-callers Caller s h = cc
 not-callers Called s h = refl
 not-callers Far s h = refl
 
-ticked : (r : Role) {m n : Meters} {s : ℕ} → Sound r talking m → Gave m n (m .payer) s s → tallied r n ≡ true
-ticked Originating {m} {n} {s} z g =
+ticked : (r : Role) {m n : Meters} {s : ℕ} → Sound r talking m → Gave m n (m .payer) s s → n .total ≤ limit → tallied r n ≡ true
+ticked Originating {m} {n} {s} z g l =
     let e : sumOf m ≡ m .total = eqb-true _ _ (z .metered) in
     adds-up n (omega (arith, g .sum, g .total, e))
-ticked Destination {m} {n} {s} z g =
+ticked Destination {m} {n} {s} z g l =
     let p = not-callers (m .payer) s (z .paying) in
-    let q : m .caller ≡ 0 = eqb-true _ _ (z .metered) in
-    no-caller n (omega arith)
+    let q = caller-none m (z .metered) in
+    no-caller n (omega arith) l
 
--- what a change leaves: a payer, meters in order, sum and total within the limit
+-- what a change leaves: a payer, meters in order, a sum within the limit
 record Left (r : Role) (p : Payer) (n : Meters) : Type 0 where
   tally : tallied r n ≡ true
   within : withinOf n ≡ true
@@ -277,25 +279,24 @@ moves r t p m n i z h =
     let g = moved m n p h in
     record {
       tally = same-tally r m n (g .caller ∙ not-callers p (m .caller) i) (g .sum) (g .total) (in-order r t m (z .metered));
-      within = same-within m n (g .sum) (g .total) (z .within);
+      within = ap (λ (x : ℕ). leb x limit) (g .sum) ∙ z .within;
       payer = g .payer;
     }
 
 ticks : (r : Role) (m n : Meters) (s : ℕ) → Sound r talking m → giveOf m s ≡ Done n → Left r (m .payer) n
 ticks r m n s z h =
     let g = gave m n s h in
-    record { tally = ticked r z g; within = both (le-leb _ _ (g .bound)) (le-leb _ _ (gave-within m n s h)); payer = g .payer }
+    record { tally = ticked r z g (gave-within m n s h); within = le-leb _ _ (g .bound); payer = g .payer }
 
 -- a Duration is a destination's: it sets the meters and not the total, so the originating exchange's would no longer add up
 receives : (r : Role) (t : Age) (m n : Meters) (s : ℕ) → isDestination r ≡ true → Sound r t m → receivedOf m s ≡ Done n → Left r Called n
 receives Originating t m n s i z h = differ i
 receives Destination t m n s i z h =
     let g = received m n s h in
-    let c : m .caller ≡ 0 = eqb-true _ _ (in-order Destination t m (z .metered)) in
+    let y = in-order Destination t m (z .metered) in
     record {
-      tally = no-caller n (g .caller ∙ c);
-      within =
-          both (le-leb _ _ (g .bound)) (ap (λ (x : ℕ). leb x limit) (g .total) ∙ right (leb (sumOf m) limit) _ (z .within));
+      tally = no-caller n (g .caller ∙ caller-none m y) (omega (arith, g .total, total-held m y));
+      within = le-leb _ _ (g .bound);
       payer = g .payer;
     }
 

@@ -5,10 +5,9 @@
 use mathlib.Core.Path.{_≡_, refl, sym, _∙_, ap}
 use mathlib.Core.Bool.{Bool, true, false, _&&_, not}
 use mathlib.Core.List.{List, [], _∷_}
-use Prim.Native.Nat.{ℕ, _+_, _≤_}
+use Prim.Native.Nat.{ℕ, _+_}
 use native.Mathlib.Omega.{arith}
 use lib.Dec.{eqb, leb}
-use borrow.Author.Tests.{eqb-true, le-leb, leb-true}
 use Rattle.meters.proofs.Laws.{timed, onlyIf, total-grows}
 use Rattle.meters.specs.Meters.{limit, sumOf, withinOf}
 use Rattle.meters.specs.declared.Meters.{Meters}
@@ -17,7 +16,7 @@ use Rattle.rows.specs.History.{run, written, history, opening}
 use Rattle.rows.specs.Promises.{lastedIn, withTotal, totalFits, openingThere}
 use Rattle.rows.specs.Read.{readOf}
 use Rattle.rows.specs.Step.{unopenedCall, totalOf, stepOf, ifInRange}
-use Rattle.rows.specs.Valid.{placedOf, unmetered, meteredOf, payingOf, numbersHeld, validOf, eventOk}
+use Rattle.rows.specs.Valid.{placedOf, unmetered, tallied, meteredOf, payingOf, numbersHeld, validOf, eventOk}
 use Rattle.rows.specs.declared.Call.{Call}
 use Rattle.rows.specs.declared.Event.{Event}
 use Rattle.rows.specs.declared.Event.the-variants.{Opening, Ask, Received, FromAccess, Expiry, Time}
@@ -32,7 +31,7 @@ use Rattle.rows.specs.declared.Role.the-variants.{Originating, Destinati
 use Rattle.rows.proofs.Answers.{planFor}
 use Rattle.rows.proofs.Found.{implies, so, Test, holds, stepped}
 use Rattle.rows.proofs.Stays
-use Rattle.rows.proofs.Truth.{differ, left, right}
+use Rattle.rows.proofs.Truth.{both, left, right}
 use Rattle.rows.proofs.Whole
 use Rattle.rows.proofs.Whole.{by-kind}
 
@@ -144,40 +143,26 @@ total-is-sum f own e es = total-answered f own es ∙ sym (Whole.billed f own e 
 abbrev other : Meters → ℕ → Meters
 other m t = record { caller = m .caller; called = m .called; far = m .far; payer = m .payer; total = t }
 
--- a total that passes the first test is within the limit
-zero-within : (t : ℕ) (b : Bool) → eqb t 0 ≡ b → (b && leb t limit) ≡ b
-zero-within t true e = le-leb t limit (let z : t ≡ 0 = eqb-true t 0 e in omega (arith, z))
-zero-within t false e = refl
-
-sum-within : (m : Meters) (t : ℕ) (b : Bool) → leb (sumOf m) limit ≡ true → eqb (sumOf m) t ≡ b → (b && leb t limit) ≡ b
-sum-within m t true l e = le-leb t limit (let z : sumOf m ≡ t = eqb-true _ _ e in let w : sumOf m ≤ limit = leb-true _ _ l in omega (arith, z, w))
-sum-within m t false l e = refl
-
 -- of meters that are in order, with another total
-none-before : (m : Meters) (t : ℕ) → unmetered m ≡ true → (unmetered (other m t) && leb t limit) ≡ eqb t 0
-none-before m t h =
-    ap (λ (b : Bool). b && eqb t 0 && leb t limit) (left (eqb (m .caller) 0 && eqb (m .called) 0 && eqb (m .far) 0) _ h)
-    ∙ zero-within t (eqb t 0) refl
+none-before : (m : Meters) (t : ℕ) → unmetered m ≡ true → unmetered (other m t) ≡ eqb t 0
+none-before m t h = ap (λ (b : Bool). b && eqb t 0) (left (eqb (m .caller) 0 && eqb (m .called) 0 && eqb (m .far) 0) _ h)
 
-in-place : (r : Role) (ph : Phase) (m : Meters) (t : ℕ) → meteredOf r ph m ≡ true → leb (sumOf m) limit ≡ true →
-    (meteredOf r ph (other m t) && leb t limit) ≡ totalFits r ph (sumOf m) t
-in-place r Unopened m t h l = none-before m t h
-in-place r Null m t h l = none-before m t h
-in-place r Setup m t h l = none-before m t h
-in-place Originating Answered m t h l = sum-within m t (eqb (sumOf m) t) l refl
-in-place Destination Answered m t h l = ap (λ (b : Bool). b && leb t limit) h
-in-place Originating Cleared m t h l = sum-within m t (eqb (sumOf m) t) l refl
-in-place Destination Cleared m t h l = ap (λ (b : Bool). b && leb t limit) h
+limit-there : (m : Meters) (t : ℕ) → tallied Destination m ≡ true → tallied Destination (other m t) ≡ leb t limit
+limit-there m t h = ap (λ (b : Bool). b && leb t limit) (left (eqb (m .caller) 0) _ h)
+
+in-place : (r : Role) (ph : Phase) (m : Meters) (t : ℕ) → meteredOf r ph m ≡ true → meteredOf r ph (other m t) ≡ totalFits r ph (sumOf m) t
+in-place r Unopened m t h = none-before m t h
+in-place r Null m t h = none-before m t h
+in-place r Setup m t h = none-before m t h
+in-place Originating Answered m t h = refl
+in-place Destination Answered m t h = limit-there m t h
+in-place Originating Cleared m t h = refl
+in-place Destination Cleared m t h = limit-there m t h
 
 -- the parts of a call's validity that no total touches
-rest-holds : (a x y p q : Bool) → a ≡ true → p ≡ true → q ≡ true → (a && (x && (y && (p && q)))) ≡ (x && y)
-rest-holds a true true p q i j k = ap (λ (b : Bool). b && (p && q)) i ∙ (ap (λ (b : Bool). b && q) j ∙ k)
-rest-holds a true false p q i j k = ap (λ (b : Bool). b && false) i
+rest-holds : (a x y p q : Bool) → a ≡ true → y ≡ true → (p && q) ≡ true → (a && (x && (y && (p && q)))) ≡ x
+rest-holds a true y p q i j k = both i (both j k)
 rest-holds a false y p q i j k = ap (λ (b : Bool). b && false) i
-
-within-sum : (x b c : Bool) → b ≡ true → (x && (b && c)) ≡ (x && c)
-within-sum x true c h = refl
-within-sum x false c h = differ h
 
 valid-with : (c : Call) (t : ℕ) → validOf c ≡ true → validOf (withTotal t c) ≡ totalFits (c .side .role) (c .stand .phase) (sumOf (c .meters)) t
 valid-with c t v =
@@ -186,11 +171,9 @@ valid-with c t v =
     let m = c .meters in
     let k = right (placedOf r ph (c .stand .rev)) _ v in
     let l = right (meteredOf r ph m) _ k in
-    let n = right (withinOf m) _ l in
-    let s = left (leb (sumOf m) limit) _ (left (withinOf m) _ l) in
-    rest-holds (placedOf r ph (c .stand .rev)) (meteredOf r ph (other m t)) (leb (sumOf m) limit && leb t limit) (payingOf r ph (m .payer)) (numbersHeld (c .side))
-    (left (placedOf r ph (c .stand .rev)) _ v) (left (payingOf r ph (m .payer)) _ n) (right (payingOf r ph (m .payer)) _ n)
-    ∙ (within-sum (meteredOf r ph (other m t)) (leb (sumOf m) limit) (leb t limit) s ∙ in-place r ph m t (left (meteredOf r ph m) _ k) s)
+    rest-holds (placedOf r ph (c .stand .rev)) (meteredOf r ph (other m t)) (withinOf m) (payingOf r ph (m .payer)) (numbersHeld (c .side))
+    (left (placedOf r ph (c .stand .rev)) _ v) (left (withinOf m) _ l) (right (withinOf m) _ l)
+    ∙ in-place r ph m t (left (meteredOf r ph m) _ k)
 
 pub nine-by-total : (c : Call) (t : ℕ) (e : Event) → validOf c ≡ true →
     eqb (stepOf (withTotal t c) e .number) 9 ≡ not (totalFits (c .side .role) (c .stand .phase) (sumOf (c .meters)) t)

@@ -9,7 +9,7 @@ use lib.Dec.{ltb, leb, eqb}
 use Rattle.meters.specs.declared.Meters.{Meters}
 use Rattle.meters.specs.declared.Payer.{Payer}
 use Rattle.meters.specs.declared.Payer.the-variants.{Nobody, Caller, Called, Far}
-use Rattle.meters.specs.Meters.{withinOf, addsUpOf}
+use Rattle.meters.specs.Meters.{withinOf, totalWithinOf, addsUpOf}
 use Rattle.rows.specs.declared.Role.{Role}
 use Rattle.rows.specs.declared.Role.the-variants.{Originating, Destination}
 use Rattle.rows.specs.declared.Phase.{Phase}
@@ -122,11 +122,12 @@ payerThere Caller = false
 payerThere Called = true
 payerThere Far = true
 
--- 9, by role. 02 #104: "A call handed in with an originating total that differs is refused", differs from the three meters' sum; 01: "a
--- destination's caller above 0". A destination's total is not held to its meters, which a Duration sets
+-- 9, from ANSWERED on, by role. 02 #104: "A call handed in with an originating total that differs is refused", differs from the three
+-- meters' sum, and so has the limit of the sum. A destination's is not compared with its meters, which a Duration sets: "any total above
+-- 31,536,000"; and 01: "a destination's caller above 0"
 abbrev pub tallied : Role → Meters → Bool
 tallied Originating m = addsUpOf m
-tallied Destination m = eqb (m .caller) 0
+tallied Destination m = eqb (m .caller) 0 && totalWithinOf m
 
 abbrev pub meteredOf : Role → Phase → Meters → Bool
 meteredOf r Unopened m = unmetered m

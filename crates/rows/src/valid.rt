@@ -181,14 +181,17 @@ fn payer_there(p: Payer) -> bool
     }
 }
 
-// At the originating exchange the total is the sum of the meters. At a destination the caller is never charged, and the total is not held
-// to the meters: a Duration received sets these.
+// At the originating exchange the total is the sum of the meters, and so has its limit. At a destination, where the caller is never
+// charged, it is not compared with the meters, for a Duration received sets these: it has a limit of its own.
 fn tallied(role: Role, m: Meters) -> bool
     ensures { λ out. ⌜ out ≡ tallied role m ⌝ }
 {
     match role {
         Role::Originating => m.adds_up(),
-        Role::Destination => m.caller == 0,
+        Role::Destination => {
+            let lasted = m.total_within();
+            (m.caller == 0) & lasted
+        }
     }
 }
 
