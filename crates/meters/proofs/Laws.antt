@@ -48,7 +48,7 @@ pub record Gave (m n : Meters) (p : Payer) (s l : ℕ) : Type 0 where
   pub bound : sumOf n ≤ limit
   pub total : n .total ≡ m .total + l
 
--- the sum was within the limit, and the meters are those that the test let through
+-- the test held, and the meters are those that it let through
 passed : (b : Bool) (x n : Meters) → unlessPast b x ≡ Done n → (b ≡ true) × (x ≡ n)
 passed true x n h = (refl, cc)
 passed false x n h = (cc, cc)
@@ -289,36 +289,41 @@ unpaid-then TooMuch p s g h = let z : _≡_ {A = ℕ} 0 1 = cc in absurd (omega 
 pub unpaid : (m : Meters) (s : ℕ) → giveOf m s ≡ NoPayer → m .payer ≡ Nobody
 unpaid m s h = unpaid-then (chargeOf m s) (m .payer) s (unpaid-charge (m .payer) m s) h
 
+-- .. and wherever nobody pays, also where a limit would be passed
+pub nobody-charged : (m : Meters) (s : ℕ) → m .payer ≡ Nobody → giveOf m s ≡ NoPayer
+nobody-charged m s h = ap (λ (p : Payer). thenLasts (chargesTo p m s) s) h
+
+-- of every change: only time misses a payer, and only where nobody pays
+pub missing : (x : Change) (m : Meters) (s : ℕ) → changeOf x m s ≡ NoPayer → (timed x ≡ true) × (m .payer ≡ Nobody)
+missing Keep m s h = let z : _≡_ {A = ℕ} 0 1 = cc in absurd (omega arith)
+missing CallerPays m s h = let z : _≡_ {A = ℕ} 0 1 = cc in absurd (omega arith)
+missing CalledPays m s h = let z : _≡_ {A = ℕ} 0 1 = cc in absurd (omega arith)
+missing FarPays m s h = let z : _≡_ {A = ℕ} 0 1 = cc in absurd (omega arith)
+missing NobodyPays m s h = let z : _≡_ {A = ℕ} 0 1 = cc in absurd (omega arith)
+missing EntireToCalled m s h = absurd (adds-or-not _ 0 (m .caller) 0 h)
+missing EntireToFar m s h = absurd (adds-or-not _ 0 0 (m .caller) h)
+missing TimePasses m s h = (refl, unpaid m s h)
+missing DurationReceived m s h = absurd (adds-or-not _ 0 s 0 h)
+
 -- ---- What is not refused: what holds of all meters that were done holds of a change that fits
 
 done-if : (P : Metered → Type 0) (b : Bool) (x : Meters) → b ≡ true → P (Done x) → P (unlessPast b x)
 done-if P b x h d = subst (λ (t : Bool). P (unlessPast t x)) (sym h) d
 
--- (those that were done have the total of before)
-adds-fit : (P : Metered → Type 0) (m : Meters) (a b f : ℕ) → sumOf m + (a + b + f) ≤ limit →
-    ((n : Meters) → n .total ≡ m .total → P (Done n)) → P (addsOf m a b f)
-adds-fit P m a b f h d = done-if P (leb (sumOf m + (a + b + f)) limit) _ (le-leb _ _ h) (d _ refl)
+adds-fit : (P : Metered → Type 0) (m : Meters) (a b f : ℕ) → sumOf m + (a + b + f) ≤ limit → ((n : Meters) → P (Done n)) → P (addsOf m a b f)
+adds-fit P m a b f h d = done-if P (leb (sumOf m + (a + b + f)) limit) _ (le-leb _ _ h) (d _)
 
 charges-fit : (P : Metered → Type 0) (p : Payer) (m : Meters) (s : ℕ) → (p ≡ Nobody → ⊥) → sumOf m + s ≤ limit →
-    ((n : Meters) → n .total ≡ m .total → P (Done n)) → P (chargesTo p m s)
+    ((n : Meters) → P (Done n)) → P (chargesTo p m s)
 charges-fit P Nobody m s h l d = absurd (h refl)
 charges-fit P Caller m s h l d = adds-fit P m s 0 0 (omega (arith, l)) d
 charges-fit P Called m s h l d = adds-fit P m 0 s 0 (omega (arith, l)) d
 charges-fit P Far m s h l d = adds-fit P m 0 0 s (omega (arith, l)) d
 
-lasts-fit : (P : Metered → Type 0) (m : Meters) (s : ℕ) → m .total + s ≤ limit → ((n : Meters) → P (Done n)) → P (lastsOf m s)
-lasts-fit P m s h d = done-if P (leb (m .total + s) limit) _ (le-leb _ _ h) (d _)
-
--- time that keeps the sum and the total within the limit is taken where somebody pays
-pub gives-fit : (P : Metered → Type 0) (m : Meters) (s : ℕ) → (m .payer ≡ Nobody → ⊥) → sumOf m + s ≤ limit → m .total + s ≤ limit →
-    ((n : Meters) → P (Done n)) → P (giveOf m s)
-gives-fit P m s h l t d =
-    charges-fit (λ (x : Metered). P (thenLasts x s)) (m .payer) m s h l (λ k e. lasts-fit P k s (omega (arith, t, e)) d)
-
 -- case C moves what was within the limit
 pub entire-fits : (P : Metered → Type 0) (p : Payer) (m : Meters) → (p ≡ Nobody → ⊥) → sumOf m ≤ limit → ((n : Meters) → P (Done n)) → P (entireOf m p)
-entire-fits P p m h l d = charges-fit P p _ (m .caller) h (omega (arith, l)) (λ n e. d n)
+entire-fits P p m h l d = charges-fit P p _ (m .caller) h (omega (arith, l)) d
 
 -- a Duration within the limit is taken
 pub duration-fits : (P : Metered → Type 0) (m : Meters) (s : ℕ) → m .caller + s ≤ limit → ((n : Meters) → P (Done n)) → P (receivedOf m s)
-duration-fits P m s l d = adds-fit P _ 0 s 0 (omega (arith, l)) (λ n e. d n)
+duration-fits P m s l d = adds-fit P _ 0 s 0 (omega (arith, l)) d

@@ -6,8 +6,8 @@ use mathlib.Core.List.{List, [], _∷_}
 use Prim.Native.Nat.{ℕ, _+_}
 use lib.Dec.{eqb, leb}
 use borrow.Author.Tests.{not-true}
-use Rattle.meters.proofs.Laws.{gave, Moved, moved, received, timed}
-use Rattle.meters.specs.Meters.{limit, sumOf, unlessPast, chargesTo, thenLasts, changeOf}
+use Rattle.meters.proofs.Laws.{gave, Moved, moved, received, timed, missing}
+use Rattle.meters.specs.Meters.{changeOf}
 use Rattle.meters.specs.declared.Change.{Change}
 use Rattle.meters.specs.declared.Change.the-variants.{Keep, CallerPays, CalledPays, FarPays, NobodyPays, EntireToCalled, EntireToFar}
 use Rattle.meters.specs.declared.Change.the-variants.{TimePasses, DurationReceived}
@@ -119,32 +119,10 @@ module _ (c : Call) (p : Plan) (r : Reading) where
   abbrev NotTen : Metered → Type 0
   NotTen x = eqb (settledOf x c p r .number) 10 ≡ false
 
-  by-the-limit : (b : Bool) (m : Meters) → NotTen (unlessPast b m)
-  by-the-limit true m = refl
-  by-the-limit false m = refl
-
-  charged-to : (q : Payer) (m : Meters) (s : ℕ) → same Nobody q ≡ false → NotTen (chargesTo q m s)
-  charged-to Nobody m s h = differ (sym h)
-  charged-to Caller m s h = by-the-limit (leb (sumOf m + (s + 0 + 0)) limit) _
-  charged-to Called m s h = by-the-limit (leb (sumOf m + (0 + s + 0)) limit) _
-  charged-to Far m s h = by-the-limit (leb (sumOf m + (0 + 0 + s)) limit) _
-
-  -- the total's limit gives no 10 either
-  lasting : (x : Metered) (s : ℕ) → NotTen x → NotTen (thenLasts x s)
-  lasting (Metered.Done m) s h = by-the-limit (leb (m .total + s) limit) _
-  lasting Metered.NoPayer s h = h
-  lasting Metered.TooMuch s h = h
-
-  changed : (x : Change) (m : Meters) (s : ℕ) → (timed x ≡ true → same Nobody (m .payer) ≡ false) → NotTen (changeOf x m s)
-  changed Keep m s h = refl
-  changed CallerPays m s h = refl
-  changed CalledPays m s h = refl
-  changed FarPays m s h = refl
-  changed NobodyPays m s h = refl
-  changed EntireToCalled m s h = charged-to Called _ (m .caller) refl
-  changed EntireToFar m s h = charged-to Far _ (m .caller) refl
-  changed TimePasses m s h = lasting (chargesTo (m .payer) m s) s (charged-to (m .payer) m s (h refl))
-  changed DurationReceived m s h = charged-to Called _ s refl
+  by-the-meters : (x : Metered) → (x ≡ Metered.NoPayer → ⊥) → NotTen x
+  by-the-meters (Metered.Done n) h = refl
+  by-the-meters Metered.NoPayer h = absurd (h refl)
+  by-the-meters Metered.TooMuch h = refl
 
 -- Where somebody pays, or nobody has to, the number is not 10.
 pub ten-for-the-unpaid : (c : Call) (e : Event) → unpaid c ≡ false → eqb (stepOf c e .number) 10 ≡ false
@@ -156,8 +134,9 @@ ten-for-the-unpaid c e u =
 
     go : (b : Bool) → eqb (performIf b c (planFor c e) (readOf e) .number) 10 ≡ false
     go true =
-        changed c (planFor c e) (readOf e) (planFor c e .change) (c .meters) (readOf e .seconds)
-        (λ k. sym (ap (λ (b : Bool). b && same Nobody (c .meters .payer)) (so _ _ (left _ _ tested) k)) ∙ u)
+        by-the-meters c (planFor c e) (readOf e) (changeOf (planFor c e .change) (c .meters) (readOf e .seconds))
+        (λ k. let z = missing (planFor c e .change) (c .meters) (readOf e .seconds) k in
+        differ (sym u ∙ both (so _ _ (left _ _ tested) (z .0)) (ap (same Nobody) (z .1))))
     go false = not-true _ (right (implies (timed (planFor c e .change)) (isAnswered (c .stand .phase))) _ tested)
 
 -- ---- So no history from before the opening meets it

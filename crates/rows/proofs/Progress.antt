@@ -6,7 +6,7 @@ use Prim.Native.Nat.{ℕ, _+_, _≤_}
 use native.Mathlib.Omega.{arith}
 use lib.Dec.{eqb, leb}
 use borrow.Author.Tests.{eqb-true, leb-true, le-leb}
-use Rattle.meters.proofs.Laws.{fits, gave-fits, too-much, unpaid, gives-fit, entire-fits, duration-fits}
+use Rattle.meters.proofs.Laws.{fits, gave-fits, too-much, unpaid, nobody-charged, entire-fits, duration-fits}
 use Rattle.meters.specs.Meters.{limit, sumOf, giveOf}
 use Rattle.meters.specs.declared.Metered.{Metered}
 use Rattle.meters.specs.declared.Metered.the-variants.{Done, NoPayer, TooMuch}
@@ -16,7 +16,7 @@ use Rattle.rows.specs.Bill.{resultTo, invokeOf, turnedTo, isAnswered}
 use Rattle.rows.specs.Perform.{settledOf, performOf}
 use Rattle.rows.specs.Promises.{sent, holding, isAnswer, isFacility, bare, setupTurns, answeredTurns}
 use Rattle.rows.specs.Promises.{calledTurns, setupTold, answeredTold, messageTurns, accessTurns, takesEffect, InEffect}
-use Rattle.rows.specs.Read.{bit, lowest, readOf, interactionBy, modeBy, extentBy, termsOf}
+use Rattle.rows.specs.Read.{bit, lowest, interactionBy, modeBy, extentBy}
 use Rattle.rows.specs.Rows
 use Rattle.rows.specs.Step.{totalOf, takesOf, stepOf}
 use Rattle.rows.specs.Valid.{placedOf, meteredOf, validOf, eventOk}
@@ -42,23 +42,18 @@ use Rattle.rows.specs.declared.RevState.the-variants.{Idle, WaitSetup, W
 use Rattle.rows.specs.declared.RevState.the-variants.{WaitCalled}
 use Rattle.rows.specs.declared.Role.{Role}
 use Rattle.rows.specs.declared.Role.the-variants.{Originating, Destination}
-use Rattle.rows.specs.declared.Row.the-variants.{TimeCounts}
 use Rattle.rows.proofs.Answers.{row-decides}
 use Rattle.rows.proofs.Placed.{placed}
-use Rattle.rows.proofs.Truth.{differ, left, right, either}
+use Rattle.rows.proofs.Stays.{within-limit}
+use Rattle.rows.proofs.Truth.{differ, left, right, both, either}
 
--- ---- What 9 leaves of a call: its place in the table, its sum, and at a destination no caller's seconds
+-- ---- What 9 leaves of a call: its place in the table, and at a destination no caller's seconds
 
 pub valid-place : (c : Call) → validOf c ≡ true → placedOf (c .side .role) (c .stand .phase) (c .stand .rev) ≡ true
 valid-place c v = left _ _ v
 
 valid-metered : (c : Call) → validOf c ≡ true → meteredOf (c .side .role) (c .stand .phase) (c .meters) ≡ true
 valid-metered c v = left _ _ (right (placedOf (c .side .role) (c .stand .phase) (c .stand .rev)) _ v)
-
-valid-sum : (c : Call) → validOf c ≡ true → sumOf (c .meters) ≤ limit
-valid-sum c v =
-    leb-true (sumOf (c .meters)) limit
-    (left _ _ (right (meteredOf (c .side .role) (c .stand .phase) (c .meters)) _ (right (placedOf (c .side .role) (c .stand .phase) (c .stand .rev)) _ v)))
 
 somebody : (t : Bool) → turnedTo t ≡ Nobody → ⊥
 somebody true z = let n : _≡_ {A = ℕ} 0 1 = cc in omega arith
@@ -99,13 +94,7 @@ time-number c s v h d =
     ∙ counts (c .side .flags) (c .stand .agreed) (c .stand .rest) (c .meters) (c .side .own) (c .side .calling) (c .side .called) s
     (c .side .role) (c .stand .phase) (c .stand .rev) (valid-place c v) (ap isAnswered h)
 
--- where somebody pays, it is accepted if the sum and the total stay within the limit ..
-pub time-accepted : (c : Call) (s : ℕ) → validOf c ≡ true → c .stand .phase ≡ Answered → (c .meters .payer ≡ Nobody → ⊥) → s ≤ 86400 →
-    sumOf (c .meters) + s ≤ limit → totalOf c + s ≤ limit → stepOf c (Time s) .number ≡ 0
-time-accepted c s v h p d l t =
-    time-number c s v h d ∙ gives-fit (λ (x : Metered). numberBy x ≡ 0) (c .meters) s p l t (λ n. refl)
-
--- .. and else it is too much
+-- where somebody pays, 2 is given exactly where the sum or the total would pass the limit ..
 too-much-exactly : (m : Meters) (s : ℕ) → (m .payer ≡ Nobody → ⊥) → (x : Metered) → giveOf m s ≡ x → eqb (numberBy x) 2 ≡ not (fits m s)
 too-much-exactly m s p (Done n) e = sym (ap not (gave-fits m n s e))
 too-much-exactly m s p NoPayer e = absurd (p (unpaid m s e))
@@ -115,6 +104,22 @@ pub time-two-exactly : (c : Call) (s : ℕ) → validOf c ≡ true → c .stand 
     eqb (stepOf c (Time s) .number) 2 ≡ not (leb (sumOf (c .meters) + s) limit && leb (totalOf c + s) limit)
 time-two-exactly c s v h p d =
     ap (λ (n : ℕ). eqb n 2) (time-number c s v h d) ∙ too-much-exactly (c .meters) s p (giveOf (c .meters) s) refl
+
+-- .. and else it is accepted
+fitting : (m : Meters) (s : ℕ) → (m .payer ≡ Nobody → ⊥) → fits m s ≡ true → (x : Metered) → giveOf m s ≡ x → numberBy x ≡ 0
+fitting m s p f (Done n) e = refl
+fitting m s p f NoPayer e = absurd (p (unpaid m s e))
+fitting m s p f TooMuch e = differ (sym (too-much m s e) ∙ f)
+
+pub time-accepted : (c : Call) (s : ℕ) → validOf c ≡ true → c .stand .phase ≡ Answered → (c .meters .payer ≡ Nobody → ⊥) → s ≤ 86400 →
+    sumOf (c .meters) + s ≤ limit → totalOf c + s ≤ limit → stepOf c (Time s) .number ≡ 0
+time-accepted c s v h p d l t =
+    time-number c s v h d ∙ fitting (c .meters) s p (both (le-leb _ _ l) (le-leb _ _ t)) (giveOf (c .meters) s) refl
+
+-- where nobody pays it is 10, whatever the limits
+pub time-ten : (c : Call) (s : ℕ) → validOf c ≡ true → c .stand .phase ≡ Answered → s ≤ 86400 → c .meters .payer ≡ Nobody →
+    stepOf c (Time s) .number ≡ 10
+time-ten c s v h d p = time-number c s v h d ∙ ap numberBy (nobody-charged (c .meters) s p)
 
 -- ---- Plans that lead to ACTIVE do
 
@@ -264,7 +269,7 @@ module _ (f : Flags) (a b : Bool) (mt : Meters) (u v w : Number) where
     by-message r Null rv k h = differ h
     by-message Originating Setup rv k h = in-setup rv h
     by-message Destination Setup rv k h = differ h
-    by-message Originating Answered rv k h = in-answered (valid-sum (standing Originating f Answered rv a b mt u v w) k) rv h
+    by-message Originating Answered rv k h = in-answered (within-limit (standing Originating f Answered rv a b mt u v w) k .0) rv h
     by-message Destination Answered rv k h = at-the-called (eqb-true (mt .caller) 0 (left (eqb (mt .caller) 0) _ (valid-metered (standing Destination f Answered rv a b mt u v w) k))) rv h
     by-message r Cleared rv k h = differ h
 

@@ -10,7 +10,7 @@ use lib.Dec.{eqb, leb}
 use borrow.Author.Tests.{eqb-true, eq-eqb, le-leb, leb-true}
 use Rattle.meters.proofs.Laws
 use Rattle.meters.proofs.Laws.{Gave, gave, gave-within, moved, received}
-use Rattle.meters.specs.Meters.{limit, sumOf, withinOf, paidByOf, giveOf, entireOf, receivedOf, changeOf}
+use Rattle.meters.specs.Meters.{limit, newOf, sumOf, withinOf, paidByOf, giveOf, entireOf, receivedOf, changeOf}
 use Rattle.meters.specs.declared.Change.{Change}
 use Rattle.meters.specs.declared.Change.the-variants.{Keep, CallerPays, CalledPays, FarPays, NobodyPays, EntireToCalled, EntireToFar}
 use Rattle.meters.specs.declared.Change.the-variants.{TimePasses, DurationReceived}
@@ -20,7 +20,7 @@ use Rattle.meters.specs.declared.Payer.{Payer}
 use Rattle.meters.specs.declared.Payer.the-variants.{Nobody, Caller, Called, Far}
 use Rattle.rows.specs.History.{run, history}
 use Rattle.rows.specs.Perform.{standOf, orHeld, roleBy, sideOf}
-use Rattle.rows.specs.Promises.{noneIs}
+use Rattle.rows.specs.Promises.{noneIs, placeIn}
 use Rattle.rows.specs.Read.{bit, readOf}
 use Rattle.rows.specs.Telephone.{national}
 use Rattle.rows.specs.Step.{unopenedCall, stepOf}
@@ -455,6 +455,38 @@ module _ (s : Side) (now to : Stand) (m n : Meters) (x : Change) (e : Event) (ok
   follows CalledNumber f = stays CalledNumber refl f
   follows CallingNumber f = stays CallingNumber refl f
 
+-- ---- What 9 leaves of the meters
+
+before-answer : (p : Phase) → isBefore (ageOf p) ≡ leb (placeIn p) 2
+before-answer Unopened = refl
+before-answer Null = refl
+before-answer Setup = refl
+before-answer Answered = refl
+before-answer Cleared = refl
+
+nobody : (p : Payer) → payerNobody p ≡ true → p ≡ Nobody
+nobody Nobody h = refl
+nobody Caller h = differ h
+nobody Called h = differ h
+nobody Far h = differ h
+
+-- before ANSWERED nothing is counted, and nobody pays
+new-meters : {r : Role} {m : Meters} (t : Age) → isBefore t ≡ true → Sound r t m → m ≡ newOf
+new-meters {r} {m} before h z =
+    let e = empty m (z .metered) in
+    let p = nobody (m .payer) (z .paying) in
+    λ i. record { caller = e .caller i; called = e .called i; far = e .far i; payer = p i; total = e .total i }
+new-meters talking i z = differ i
+new-meters over i z = differ i
+
+-- and always the sum and the total are within the limit
+totals-within : (r : Role) (t : Age) (m : Meters) → Sound r t m → m .total ≤ limit
+totals-within Originating t m z =
+    let e : sumOf m ≡ m .total = eqb-true _ _ (in-order Originating t m (z .metered)) in
+    let l : sumOf m ≤ limit = leb-true _ _ (z .within) in
+    omega (arith, e, l)
+totals-within Destination t m z = total-held m (in-order Destination t m (z .metered))
+
 -- ---- THE THEOREMS
 
 -- A call that step takes is followed by one that step takes, whatever the event.
@@ -490,3 +522,10 @@ never-nine c (e ∷ es) v = both (ap not (nine-exactly c e ∙ ap not v)) (never
 -- So no step of any history from before the opening has it.
 pub never-nine-from-unopened : (es : List Event) → noneIs 9 (history unopenedCall es) ≡ true
 never-nine-from-unopened es = never-nine unopenedCall es unopened-valid
+
+-- The meters of a call: new before ANSWERED, and always within the limit, the sum of them and the total.
+pub new-before-answer : (c : Call) → validOf c ≡ true → leb (placeIn (c .stand .phase)) 2 ≡ true → c .meters ≡ newOf
+new-before-answer c v h = new-meters (ageOf (c .stand .phase)) (before-answer (c .stand .phase) ∙ h) (good c v .sound)
+
+pub within-limit : (c : Call) → validOf c ≡ true → (sumOf (c .meters) ≤ limit) × (c .meters .total ≤ limit)
+within-limit c v = let z = good c v .sound in (leb-true _ _ (z .within), totals-within (c .side .role) (ageOf (c .stand .phase)) (c .meters) z)

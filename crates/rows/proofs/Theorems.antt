@@ -10,7 +10,7 @@ use mathlib.Core.List.{List, _++_}
 use mathlib.Core.Logic.{_↔_}
 use Prim.Native.Nat.{ℕ, _+_, _≤_}
 use lib.Dec.{eqb, leb}
-use Rattle.meters.specs.Meters.{sumOf}
+use Rattle.meters.specs.Meters.{newOf, sumOf}
 use Rattle.meters.specs.declared.Payer.the-variants.{Nobody}
 use Rattle.rows.specs.Bill.{bitAt, isAnswered, isRev, answered, Case, plain, marks, took, reversal, payer, bill, line}
 use Rattle.rows.specs.History.{run, written, history, opening}
@@ -78,6 +78,14 @@ never-nine = Stays.never-nine
 pub unopened-valid : validOf unopenedCall ≡ true
 unopened-valid = refl
 
+-- A call's meters are new before ANSWERED: all 0, with the total, and nobody pays ..
+pub new-before-answer : (c : Call) → validOf c ≡ true → leb (placeIn (c .stand .phase)) 2 ≡ true → c .meters ≡ newOf
+new-before-answer = Stays.new-before-answer
+
+-- .. and in every phase their sum and the total are within the limit.
+pub within-limit : (c : Call) → validOf c ≡ true → (sumOf (c .meters) ≤ 31536000) × (totalOf c ≤ 31536000)
+within-limit = Stays.within-limit
+
 -- No step leads to ANSWERED with nobody as payer, unless the call stood so ..
 pub paid-stays : (c : Call) (e : Event) → unpaid c ≡ false → unpaid (stepOf c e .call) ≡ false
 paid-stays = Payers.paid-stays
@@ -122,6 +130,11 @@ time-accepted = Progress.time-accepted
 pub time-two-exactly : (c : Call) (s : ℕ) → validOf c ≡ true → c .stand .phase ≡ Answered → (c .meters .payer ≡ Nobody → ⊥) → s ≤ 86400 →
     eqb (stepOf c (Time s) .number) 2 ≡ not (leb (sumOf (c .meters) + s) 31536000 && leb (totalOf c + s) 31536000)
 time-two-exactly = Progress.time-two-exactly
+
+-- Where nobody pays it is 10, also where a limit would be passed: 10 comes before 2.
+pub time-ten : (c : Call) (s : ℕ) → validOf c ≡ true → c .stand .phase ≡ Answered → s ≤ 86400 → c .meters .payer ≡ Nobody →
+    stepOf c (Time s) .number ≡ 10
+time-ten = Progress.time-ten
 
 -- Each row that leads to ACTIVE does so wherever its needed parts are there and no limit is passed (`takesEffect`: the table of them).
 pub reversal-takes-effect : (c : Call) (e : Event) → validOf c ≡ true → eventOk e ≡ true → takesEffect c e ≡ true → InEffect (stepOf c e)
@@ -262,7 +275,11 @@ charged-by-result = Clearing.charged-by-result
 pub total-counts : (c : Call) (e : Event) → totalOf (stepOf c e .call) ≡ totalOf c + lastedIn (written c e (stepOf c e))
 total-counts = Totals.total-counts
 
--- .. so for every originating history from an opening it is the answered seconds of the bill's definition ..
+-- .. so from any call, after any events, it has grown by the answered seconds of the history, as the bill defines them ..
+pub total-after : (c : Call) (es : List Event) → totalOf (run c es) ≡ totalOf c + answered (history c es)
+total-after = Totals.total-after
+
+-- .. and for every originating history from an opening it is just these seconds ..
 pub total-answered : (f : ℕ) (own : Number) → (es : List Event) →
     totalOf (run (opening f own .call) es) ≡ answered (history (opening f own .call) es)
 total-answered = Totals.total-answered
@@ -277,7 +294,7 @@ pub total-there : (f : ℕ) (own : Number) → (es : List Event) →
     totalOf (run (openingThere f own .call) es) ≡ answered (history (openingThere f own .call) es)
 total-there = Totals.total-there
 
--- A call with another total is none exactly if that total does not fit (`totalFits`: 0 before ANSWERED; from then on the meters' sum at the
+-- A call with another total is no call exactly if that total does not fit (`totalFits`: 0 before ANSWERED; from then on the meters' sum at the
 -- originating exchange, and at a destination anything up to the limit): every event is then answered by 9.
 pub nine-by-total : (c : Call) (t : ℕ) (e : Event) → validOf c ≡ true →
     eqb (stepOf (withTotal t c) e .number) 9 ≡ not (totalFits (c .side .role) (c .stand .phase) (sumOf (c .meters)) t)

@@ -13,10 +13,10 @@ use Rattle.meters.specs.Meters.{limit, sumOf, withinOf}
 use Rattle.meters.specs.declared.Meters.{Meters}
 use Rattle.rows.specs.Bill.{pick, Step, counted, isTime, secondsIn, isAnswered, times, sum, answered}
 use Rattle.rows.specs.History.{run, written, history, opening}
-use Rattle.rows.specs.Promises.{lastedIn, withTotal, totalFits, openingThere}
+use Rattle.rows.specs.Promises.{lastedIn, retotalled, withTotal, totalFits, openingThere}
 use Rattle.rows.specs.Read.{readOf}
-use Rattle.rows.specs.Step.{unopenedCall, totalOf, stepOf, ifInRange}
-use Rattle.rows.specs.Valid.{placedOf, unmetered, tallied, meteredOf, payingOf, numbersHeld, validOf, eventOk}
+use Rattle.rows.specs.Step.{unopenedCall, totalOf, stepOf}
+use Rattle.rows.specs.Valid.{placedOf, unmetered, tallied, meteredOf, payingOf, numbersHeld, validOf}
 use Rattle.rows.specs.declared.Call.{Call}
 use Rattle.rows.specs.declared.Event.{Event}
 use Rattle.rows.specs.declared.Event.the-variants.{Opening, Ask, Received, FromAccess, Expiry, Time}
@@ -126,13 +126,20 @@ no-seconds false = refl
 opens-at-0 : (r f : ℕ) (own : Number) → totalOf (stepOf unopenedCall (Opening r f own) .call) ≡ 0
 opens-at-0 r f own = total-counts unopenedCall (Opening r f own) ∙ no-seconds (counted (written unopenedCall (Opening r f own) (stepOf unopenedCall (Opening r f own))))
 
+from-opening : (r f : ℕ) (own : Number) → (es : List Event) →
+    totalOf (run (stepOf unopenedCall (Opening r f own) .call) es) ≡ answered (history (stepOf unopenedCall (Opening r f own) .call) es)
+from-opening r f own es =
+    let z = opens-at-0 r f own in
+    let t = total-after (stepOf unopenedCall (Opening r f own) .call) es in
+    omega (arith, z, t)
+
 pub total-answered : (f : ℕ) (own : Number) → (es : List Event) →
     totalOf (run (opening f own .call) es) ≡ answered (history (opening f own .call) es)
-total-answered f own es = let z = opens-at-0 0 f own in let t = total-after (opening f own .call) es in omega (arith, z, t)
+total-answered = from-opening 0
 
 pub total-there : (f : ℕ) (own : Number) → (es : List Event) →
     totalOf (run (openingThere f own .call) es) ≡ answered (history (openingThere f own .call) es)
-total-there f own es = let z = opens-at-0 1 f own in let t = total-after (openingThere f own .call) es in omega (arith, z, t)
+total-there = from-opening 1
 
 pub total-is-sum : (f : ℕ) (own : Number) → opening f own .number ≡ 0 → (es : List Event) →
     totalOf (run (opening f own .call) es) ≡ sumOf (run (opening f own .call) es .meters)
@@ -140,17 +147,14 @@ total-is-sum f own e es = total-answered f own es ∙ sym (Whole.billed f own e 
 
 -- ---- 9: which totals are a call's
 
-abbrev other : Meters → ℕ → Meters
-other m t = record { caller = m .caller; called = m .called; far = m .far; payer = m .payer; total = t }
-
 -- of meters that are in order, with another total
-none-before : (m : Meters) (t : ℕ) → unmetered m ≡ true → unmetered (other m t) ≡ eqb t 0
+none-before : (m : Meters) (t : ℕ) → unmetered m ≡ true → unmetered (retotalled t m) ≡ eqb t 0
 none-before m t h = ap (λ (b : Bool). b && eqb t 0) (left (eqb (m .caller) 0 && eqb (m .called) 0 && eqb (m .far) 0) _ h)
 
-limit-there : (m : Meters) (t : ℕ) → tallied Destination m ≡ true → tallied Destination (other m t) ≡ leb t limit
+limit-there : (m : Meters) (t : ℕ) → tallied Destination m ≡ true → tallied Destination (retotalled t m) ≡ leb t limit
 limit-there m t h = ap (λ (b : Bool). b && leb t limit) (left (eqb (m .caller) 0) _ h)
 
-in-place : (r : Role) (ph : Phase) (m : Meters) (t : ℕ) → meteredOf r ph m ≡ true → meteredOf r ph (other m t) ≡ totalFits r ph (sumOf m) t
+in-place : (r : Role) (ph : Phase) (m : Meters) (t : ℕ) → meteredOf r ph m ≡ true → meteredOf r ph (retotalled t m) ≡ totalFits r ph (sumOf m) t
 in-place r Unopened m t h = none-before m t h
 in-place r Null m t h = none-before m t h
 in-place r Setup m t h = none-before m t h
@@ -171,7 +175,7 @@ valid-with c t v =
     let m = c .meters in
     let k = right (placedOf r ph (c .stand .rev)) _ v in
     let l = right (meteredOf r ph m) _ k in
-    rest-holds (placedOf r ph (c .stand .rev)) (meteredOf r ph (other m t)) (withinOf m) (payingOf r ph (m .payer)) (numbersHeld (c .side))
+    rest-holds (placedOf r ph (c .stand .rev)) (meteredOf r ph (retotalled t m)) (withinOf m) (payingOf r ph (m .payer)) (numbersHeld (c .side))
     (left (placedOf r ph (c .stand .rev)) _ v) (left (withinOf m) _ l) (right (withinOf m) _ l)
     ∙ in-place r ph m t (left (meteredOf r ph m) _ k)
 

@@ -59,14 +59,12 @@ noneIs n (s ∷ h) = not (eqb (s .number) n) && noneIs n h
 abbrev pub lastedIn : Step → ℕ
 lastedIn s = pick (counted s) (secondsIn (s .event)) 0
 
--- the same call with another total
+-- the same meters, and the same call, with another total
+abbrev pub retotalled : ℕ → Meters → Meters
+retotalled t m = record { caller = m .caller; called = m .called; far = m .far; payer = m .payer; total = t }
+
 abbrev pub withTotal : ℕ → Call → Call
-withTotal t c =
-    record {
-      side = c .side;
-      stand = c .stand;
-      meters = record { caller = c .meters .caller; called = c .meters .called; far = c .meters .far; payer = c .meters .payer; total = t };
-    }
+withTotal t c = record { side = c .side; stand = c .stand; meters = retotalled t (c .meters) }
 
 -- The totals that a call may hold, by role, phase and the sum of its meters. Before ANSWERED: 0. From then on, at the originating exchange:
 -- the sum; at a destination: any that is not above the limit, for it is not compared with the meters

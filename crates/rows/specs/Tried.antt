@@ -250,6 +250,15 @@ full : run (served WaitCalled 31536000 31536000) (result 0 ∷ Time 0 ∷ Time 1
     ∷ []
 full = refl
 
+-- 10 comes before 2: nobody pays, and no second is left
+nobody-first : stepOf
+    (record {
+      side = talked 0 .side;
+      stand = talked 0 .stand;
+      meters = record { caller = 31536000; called = 0; far = 0; payer = Payer.Nobody; total = 31536000 };
+    }) (Time 1) .number ≡ 10
+nobody-first = refl
+
 -- what an expiry is answered in IDLE, where the call holds this total: 1, it has no row; or 9
 abbrev expiry-with : ℕ → Call → ℕ
 expiry-with t c = stepOf (withTotal t c) Expiry .number
@@ -259,10 +268,10 @@ differs : (expiry-with 39 (talked 40) ≡ 9) × (expiry-with 40 (talked 40) ≡ 
     × (expiry-with 1 (after unopenedCall (Opening 1 8 room ∷ [])) ≡ 9)
 differs = (refl, refl, refl, refl)
 
--- a destination's is not compared with its meters, but it has the limit
+-- a destination's is not compared with its meters, but it has the limit, and so has the sum of these
 own-limit : (expiry-with 7 (served Idle 40 40) ≡ 1) × (expiry-with 31536000 (served Idle 40 40) ≡ 1)
-    × (expiry-with 31536001 (served Idle 40 40) ≡ 9)
-own-limit = (refl, refl, refl)
+    × (expiry-with 31536001 (served Idle 40 40) ≡ 9) × (expiry-with 40 (served Idle 31536001 40) ≡ 9)
+own-limit = (refl, refl, refl, refl)
 
 -- ---- National and international, 02 #103
 
