@@ -10,7 +10,6 @@ use Rattle.meters.proofs.Laws.{received}
 use Rattle.meters.specs.Meters.{receivedOf, changeOf}
 use Rattle.meters.specs.declared.Change.{Change}
 use Rattle.meters.specs.declared.Meters.{Meters}
-use Rattle.meters.specs.declared.Payer.the-variants.{Called}
 use Rattle.rows.specs.Bill.{bitAt, resultTo}
 use Rattle.rows.specs.Perform.{standOf, settledOf, performIf, performOf}
 use Rattle.rows.specs.Promises.{placeIn, isFacility, calledTurns, setupTold, answeredTold, messageTurns, accessTurns}

@@ -1,10 +1,10 @@
 -- SOMEBODY PAYS, at either exchange: no step leads to ANSWERED with nobody as payer, so no history from the opening meets number 10.
 -- Assumes nothing.
-use mathlib.Core.Path.{_≡_, refl, sym, _∙_, ap, subst}
+use mathlib.Core.Path.{_≡_, refl, sym, _∙_, ap}
 use mathlib.Core.Bool.{Bool, true, false, _&&_, _||_, not}
 use mathlib.Core.List.{List, [], _∷_}
-use Prim.Native.Nat.{ℕ, _+_}
-use lib.Dec.{eqb, leb}
+use Prim.Native.Nat.{ℕ}
+use lib.Dec.{eqb}
 use borrow.Author.Tests.{not-true}
 use Rattle.meters.proofs.Laws.{gave, Moved, moved, received, timed, missing}
 use Rattle.meters.specs.Meters.{changeOf}
@@ -14,8 +14,7 @@ use Rattle.meters.specs.declared.Change.the-variants.{TimePasses, DurationRecei
 use Rattle.meters.specs.declared.Metered.{Metered}
 use Rattle.meters.specs.declared.Metered.the-variants.{Done}
 use Rattle.meters.specs.declared.Meters.{Meters}
-use Rattle.meters.specs.declared.Payer.{Payer}
-use Rattle.meters.specs.declared.Payer.the-variants.{Nobody, Caller, Called, Far}
+use Rattle.meters.specs.declared.Payer.the-variants.{Nobody, Called, Far}
 use Rattle.rows.specs.Bill.{isAnswered, same}
 use Rattle.rows.specs.History.{run, history}
 use Rattle.rows.specs.Perform.{standOf, settledOf, appliesOf, performIf}

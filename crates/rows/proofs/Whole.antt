@@ -10,25 +10,23 @@ use lib.Dec.{eqb, leb}
 use Rattle.meters.proofs.Laws
 use Rattle.meters.proofs.Laws.{Gave, gave, Moved, moved}
 use Rattle.meters.specs.Meters.{newOf, paidByOf, giveOf, entireOf}
-use Rattle.meters.specs.declared.Metered.{Metered}
-use Rattle.meters.specs.declared.Metered.the-variants.{Done, NoPayer, TooMuch}
 use Rattle.meters.specs.declared.Meters.{Meters}
 use Rattle.meters.specs.declared.Payer.{Payer}
 use Rattle.meters.specs.declared.Payer.the-variants.{Nobody, Caller, Called, Far}
 use Rattle.rows.specs.Bill.{pick, Step, accepted, isAnswered, secondsIn, counted, times, sum, answered, resultTo, invokeOf, Said}
-use Rattle.rows.specs.Bill.{saying, silence, said, Case, caseB, caseC, caseD, Mark, plain, second, reversed, requested, turnsSetup}
+use Rattle.rows.specs.Bill.{saying, silence, said, Case, caseB, caseC, caseD, Mark, plain, second, reversed, turnsSetup}
 use Rattle.rows.specs.Bill.{turnsAnswered, turns, inEffect, isRev, markBy, stillWaits, waitsIn, waitsBy, waits, marks, Took, nothing}
 use Rattle.rows.specs.Bill.{took}
 use Rattle.rows.specs.Bill.{reversal, turnedTo, covers, payer, payments, bill, allSeconds, same, owed}
-use Rattle.rows.specs.Find.{when, originatingNullOf, originatingSetupIdleOf, waitSetupOf, originatingWaitAnswerOf}
+use Rattle.rows.specs.Find.{originatingNullOf, originatingSetupIdleOf, waitSetupOf, originatingWaitAnswerOf}
 use Rattle.rows.specs.Find.{originatingAnsweredIdleOf, waitActiveOf, activeOf}
 use Rattle.rows.specs.History.{run, written, history, opening}
-use Rattle.rows.specs.Perform.{refusedOf, followsOf, settledOf, performOf}
+use Rattle.rows.specs.Perform.{performOf}
 use Rattle.rows.specs.Read.{bit, lowest, flagsOf, heardOf, kindBy, kindOf, readOf, errorOf, cueOf, listedOf, interactionBy, modeBy}
 use Rattle.rows.specs.Read.{extentBy, correctBy, termsOf}
 use Rattle.rows.specs.Rows
 use Rattle.rows.specs.Rows.{planOf}
-use Rattle.rows.specs.Step.{unopenedCall, takesOf, ifInRange, ifCall, stepOf}
+use Rattle.rows.specs.Step.{unopenedCall, takesOf, ifInRange, stepOf}
 use Rattle.rows.specs.Valid.{validOf, eventOk}
 use Rattle.rows.specs.declared.Call.{Call}
 use Rattle.rows.specs.declared.Component.{Component}
@@ -51,7 +49,6 @@ use Rattle.rows.specs.declared.Outcome.{Outcome}
 use Rattle.rows.specs.declared.Phase.{Phase}
 use Rattle.rows.specs.declared.Phase.the-variants.{Unopened, Null, Setup, Answered, Cleared}
 use Rattle.rows.specs.declared.Plan.{Plan}
-use Rattle.rows.specs.declared.Reading.{Reading}
 use Rattle.rows.specs.declared.RevState.{RevState}
 use Rattle.rows.specs.declared.RevState.the-variants.{Idle, WaitSetup, WaitActive, WaitAnswer, Active, WaitSetupConf, WaitActiveConf}
 use Rattle.rows.specs.declared.RevState.the-variants.{WaitCalled}
