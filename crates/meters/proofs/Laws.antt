@@ -263,10 +263,13 @@ total-grows EntireToFar m n s h = let g = moved m n Far h in omega (arith, g .to
 total-grows TimePasses m n s h = let g = gave m n s h in g .total
 total-grows DurationReceived m n s h = let g = received m n s h in omega (arith, g .total)
 
--- ---- Who is missing: a tick finds no payer only where nobody pays
+-- ---- Who is missing: a tick finds no payer exactly where nobody pays
+
+done-paid : {A : Type 0} (m : Meters) → Done m ≡ NoPayer → A
+done-paid m h = let z : _≡_ {A = ℕ} 0 1 = cc in absurd (omega arith)
 
 past-or-done : (b : Bool) (x : Meters) → unlessPast b x ≡ NoPayer → ⊥
-past-or-done true x h = let z : _≡_ {A = ℕ} 0 1 = cc in omega arith
+past-or-done true x h = done-paid x h
 past-or-done false x h = let z : _≡_ {A = ℕ} 0 1 = cc in omega arith
 
 adds-or-not : (m : Meters) (a b f : ℕ) → addsOf m a b f ≡ NoPayer → ⊥
@@ -295,11 +298,11 @@ nobody-charged m s h = ap (λ (p : Payer). thenLasts (chargesTo p m s) s) h
 
 -- of every change: only time misses a payer, and only where nobody pays
 pub missing : (x : Change) (m : Meters) (s : ℕ) → changeOf x m s ≡ NoPayer → (timed x ≡ true) × (m .payer ≡ Nobody)
-missing Keep m s h = let z : _≡_ {A = ℕ} 0 1 = cc in absurd (omega arith)
-missing CallerPays m s h = let z : _≡_ {A = ℕ} 0 1 = cc in absurd (omega arith)
-missing CalledPays m s h = let z : _≡_ {A = ℕ} 0 1 = cc in absurd (omega arith)
-missing FarPays m s h = let z : _≡_ {A = ℕ} 0 1 = cc in absurd (omega arith)
-missing NobodyPays m s h = let z : _≡_ {A = ℕ} 0 1 = cc in absurd (omega arith)
+missing Keep m s h = done-paid _ h
+missing CallerPays m s h = done-paid _ h
+missing CalledPays m s h = done-paid _ h
+missing FarPays m s h = done-paid _ h
+missing NobodyPays m s h = done-paid _ h
 missing EntireToCalled m s h = absurd (adds-or-not _ 0 (m .caller) 0 h)
 missing EntireToFar m s h = absurd (adds-or-not _ 0 0 (m .caller) h)
 missing TimePasses m s h = (refl, unpaid m s h)
