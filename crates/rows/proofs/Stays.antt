@@ -177,7 +177,7 @@ in-order Destination before m h = let z = empty m h in no-caller m (z .caller) (
 in-order r talking m h = h
 in-order r over m h = h
 
--- which stays where neither sum nor total changes, and no caller's second comes
+-- which stays where neither sum nor total changes, and the caller's meter is then 0
 same-tally : (r : Role) (m n : Meters) → n .caller ≡ 0 → sumOf n ≡ sumOf m → n .total ≡ m .total → tallied r m ≡ true → tallied r n ≡ true
 same-tally Originating m n c s t h = let e : sumOf m ≡ m .total = eqb-true _ _ h in adds-up n (omega (arith, s, t, e))
 same-tally Destination m n c s t h = no-caller n c (omega (arith, t, total-held m h))

@@ -294,8 +294,8 @@ pub total-there : (f : ℕ) (own : Number) → (es : List Event) →
     totalOf (run (openingThere f own .call) es) ≡ answered (history (openingThere f own .call) es)
 total-there = Totals.total-there
 
--- A call with another total is no call exactly if that total does not fit (`totalFits`: 0 before ANSWERED; from then on the meters' sum at the
--- originating exchange, and at a destination anything up to the limit): every event is then answered by 9.
+-- A call with another total is no call exactly if that total does not fit (`totalFits`: 0 before ANSWERED; from then on the meters' sum at
+-- the originating exchange, and at a destination anything up to the limit): every event is then answered by 9.
 pub nine-by-total : (c : Call) (t : ℕ) (e : Event) → validOf c ≡ true →
     eqb (stepOf (withTotal t c) e .number) 9 ≡ not (totalFits (c .side .role) (c .stand .phase) (sumOf (c .meters)) t)
 nine-by-total = Totals.nine-by-total

@@ -1,5 +1,5 @@
--- 01, "Calls to try": the histories marked P, as theorems about the definition; the second press of 02 #101, the totals of 02 #104; and calls that only a host
--- hands in. Each computes.
+-- 01, "Calls to try": the histories marked P, as theorems about the definition; the second press of 02 #101; the totals of 02 #104; rooms
+-- abroad, 02 #103; and calls that only a host hands in. Each computes.
 -- Assumes nothing.
 use Prim.Native.Nat.{ℕ, _+_}
 use mathlib.Core.Bool.{true, false}

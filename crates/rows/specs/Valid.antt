@@ -122,8 +122,8 @@ payerThere Caller = false
 payerThere Called = true
 payerThere Far = true
 
--- 9, from ANSWERED on, by role. 02 #104: "A call handed in with an originating total that differs is refused", differs from the three
--- meters' sum, and so has the limit of the sum. A destination's is not compared with its meters, which a Duration sets: "any total above
+-- 9, from ANSWERED on, by role. 02 #104: "A call handed in with an originating total that differs is refused", that is, differs from the
+-- three meters' sum; so it has the sum's limit. A destination's is not compared with its meters, which a Duration sets: "any total above
 -- 31,536,000"; and 01: "a destination's caller above 0"
 abbrev pub tallied : Role → Meters → Bool
 tallied Originating m = addsUpOf m

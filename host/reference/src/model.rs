@@ -374,7 +374,8 @@ pub struct History<'a> {
     file: &'a [u8],
     call: Call,
     shown: u32,
-    /// The answered seconds by the records alone: those of the time events accepted in ANSWERED since the opening.
+    /// The answered seconds by the records, the numbers given back and the phases: those of the time events accepted in
+    /// ANSWERED since the opening.
     answered: u64,
 }
 
