@@ -21,6 +21,7 @@ pub struct Meters {
     pub called: u32,
     pub far: u32,
     pub payer: Payer,
+    // answered seconds
     pub total: u32,
 }
 
@@ -169,7 +170,8 @@ impl Meters {
         emptied.charge(self.caller)
     }
 
-    // Case C in transfer mode, at the destination: the Duration received stands for all seconds so far.
+    // Case C in transfer mode, at the destination: on the meters the Duration received stands for all seconds so far. The total has this
+    // exchange's own.
     pub fn received(self, duration: u32) -> Metered
         ensures { λ out. ⌜ out ≡ receivedOf self duration ⌝ }
     {
