@@ -1,15 +1,20 @@
 /*
  * Listings of the same inputs, timed in one process: the proved one (rev_listing), the plain one (plain_listing) and
  * that of the independent model (reference_listing). Then writers of the same events: the proved ones (rev_write_..)
- * and the plain ones (plain_write_..).
+ * and the plain ones (plain_write_..). Then readers and writers of the same parameters: the proved ones
+ * (rev_read_parameter, rev_write_parameter) and the plain ones.
  *
- *   bench [--roomy]                two tables: nanoseconds for one call of each listing, and for 64 KiB of records written
- *                                  by each side's writers, with ratios to the plain one
+ *   bench [--roomy]                tables: nanoseconds for one call of each listing, for 64 KiB of records written by each
+ *                                  side's writers, and for some hundreds of parameters read and written, with ratios to
+ *                                  the plain one
  *   bench [--roomy] --once WHICH KIND SIZE [CALLS]
  *                                  no table, but CALLS calls (1 if it is not said, and 0 is none): WHICH rev or plain,
  *                                  KIND call, messages or expiries, SIZE in KiB (1 to 64)
  *   bench --write WHICH KIND [CALLS]
  *                                  no table, but 64 KiB of records written CALLS times; KIND may also be times
+ *   bench --read WHICH KIND [CALLS]
+ *   bench --send WHICH KIND [CALLS]
+ *                                  no table, but all parameters of a KIND read, or written, CALLS times
  *
  * Buffers have exactly the listing's length, which a call of the plain listing gives first, so that all have to measure the
  * whole file before they write; or under --roomy 4 MiB, which is more than any listing takes, so that the plain listing
@@ -34,6 +39,17 @@
  * What is written is alike: a call of events in range, with an access event in the place of the time out of range; messages;
  * expiries; and times, of 8 bytes. The writers are called through pointers, and one record is written after another until
  * none fits.
+ *
+ * Parameters, of which each kind has as many:
+ *
+ *   usual      one component: every invoke and result with the parts that a row sends, the errors, rejects
+ *   full       the longest of each: every part, fifteen digits, the longest duration
+ *   looser     the usual ones as a neighbour may write them: longer lengths, a linked identifier, unknown elements
+ *   several    three to six of the usual components in each
+ *   refused    the usual and the full ones with something wrong: 11, 12, 13 and 14 at all depths
+ *
+ * The usual ones and the full ones are also written, from their entries. One after another is read or written, all into the
+ * same buffer, which has room for each.
  */
 #define _POSIX_C_SOURCE 200809L
 
@@ -261,6 +277,318 @@ static const struct written {
 
 enum { WRITINGS = sizeof writings / sizeof *writings };
 
+/* ---- What is on the wire ---- */
+
+enum {
+    PARAMETERS = 340,        /* of each kind */
+    LONGEST_PARAMETER = 257, /* its name and length among them */
+    ENTRIES_ROOM = 512,      /* more than the entries of any parameter have */
+    MESSAGE = 5,             /* with what they are read: a FAC, cause 0 */
+    CAUSE = 0
+};
+
+static struct octets {
+    size_t length;
+    uint8_t bytes[LONGEST_PARAMETER];
+} parameters[PARAMETERS], entries[PARAMETERS];
+
+/* One side's reader and writer of parameters. */
+struct wires {
+    uint32_t (*read)(const uint8_t *, size_t, uint8_t, uint8_t, uint8_t *, size_t);
+    uint32_t (*send)(const uint8_t *, size_t, uint8_t *, size_t);
+};
+
+/* Null pointers where they are not linked; the reference has none. */
+static const struct wires wires[LISTINGS] = {
+#ifndef WITHOUT_REV
+    [REV] = {rev_read_parameter, rev_write_parameter},
+#endif
+    [PLAIN] = {plain_read_parameter, plain_write_parameter},
+};
+
+/* What is given beside the number: the place, or the length. */
+static size_t rest(uint32_t given)
+{
+    return given >> 8;
+}
+
+enum component { INVOKE = 1, RESULT, ERROR, REJECT };
+
+enum part { TRANSFER = 1, ACCEPTED = 2, AS_TRANSFER = 4, PARTIAL = 8, CALLING = 16, CALLED = 32, DURATION = 64 };
+
+/* A component as rows send it, in the message that carries it. */
+struct form {
+    uint8_t message, cause, component, item, parts;
+};
+
+static const struct form usual_forms[] = {
+    {1, 0, INVOKE, 1, 0},
+    {1, 0, INVOKE, 1, TRANSFER | CALLING},
+    {5, 0, INVOKE, 2, 0},
+    {5, 0, INVOKE, 2, TRANSFER | CALLING},
+    {5, 0, INVOKE, 3, CALLED},
+    {5, 0, INVOKE, 3, PARTIAL | CALLED},
+    {5, 0, INVOKE, 3, TRANSFER},
+    {5, 0, INVOKE, 3, TRANSFER | PARTIAL},
+    {2, 0, RESULT, 1, CALLED},
+    {2, 0, RESULT, 1, ACCEPTED | AS_TRANSFER},
+    {5, 0, RESULT, 2, CALLED},
+    {5, 0, RESULT, 2, ACCEPTED | AS_TRANSFER},
+    {5, 0, RESULT, 3, 0},
+    {5, 0, RESULT, 3, ACCEPTED | AS_TRANSFER | CALLING},
+    {5, 0, RESULT, 3, ACCEPTED | AS_TRANSFER | CALLING | DURATION},
+    {4, 29, ERROR, 4, 0},
+    {5, 0, REJECT, 0, 0},
+};
+
+static const struct form full_forms[] = {
+    {1, 0, INVOKE, 1, TRANSFER | CALLING},
+    {5, 0, INVOKE, 2, TRANSFER | CALLING},
+    {5, 0, INVOKE, 3, TRANSFER | CALLED | PARTIAL},
+    {2, 0, RESULT, 1, ACCEPTED | AS_TRANSFER | CALLED},
+    {5, 0, RESULT, 2, ACCEPTED | AS_TRANSFER | CALLED},
+    {5, 0, RESULT, 3, ACCEPTED | AS_TRANSFER | CALLING | DURATION},
+    {4, 29, ERROR, 12, 0},
+    {5, 0, REJECT, 0, 0},
+};
+
+enum { USUAL_FORMS = sizeof usual_forms / sizeof *usual_forms, FULL_FORMS = sizeof full_forms / sizeof *full_forms };
+
+/* Sets an entry and its parameter. */
+static void build_parameter(size_t i, unsigned identifier, const struct form *form, bool international, uint8_t count, uint64_t value,
+                            uint32_t duration)
+{
+    bool calling = form->parts & CALLING, called = form->parts & CALLED;
+    uint8_t *entry = entries[i].bytes;
+
+    entry[0] = identifier & 0xFF;
+    entry[1] = identifier >> 8 & 0xFF;
+    plain_write_message(form->message, form->cause, form->component, form->item, form->parts, calling && international,
+                        calling ? count : 0, calling ? value : 0, called && international, called ? count : 0, called ? value : 0,
+                        form->parts & DURATION ? duration : 0, entry + 2, LONGEST_PARAMETER - 2);
+    entries[i].length = 2 + rev_record_length(entry + 2);
+    parameters[i].length = rest(plain_write_parameter(entry, entries[i].length, parameters[i].bytes, LONGEST_PARAMETER));
+}
+
+/* Rooms of seven digits, and now and then one abroad; errors 4 to 12 in turn; every other reject of no identifier. */
+static void build_usual(void)
+{
+    for (size_t i = 0; i < PARAMETERS; i++) {
+        size_t round = i / USUAL_FORMS;
+        struct form form = usual_forms[i % USUAL_FORMS];
+        bool abroad = round % 4 == 3;
+        unsigned identifier = form.component == REJECT && round % 2 == 1 ? 256 : i % 256;
+
+        if (form.component == ERROR)
+            form.item += round % 9;
+        build_parameter(i, identifier, &form, abroad, abroad ? 12 : 7, abroad ? 442075550100 + i : 5550100 + i, (uint32_t)(40 + 97 * i));
+    }
+}
+
+static void build_full(void)
+{
+    for (size_t i = 0; i < PARAMETERS; i++)
+        build_parameter(i, i % 256, &full_forms[i % FULL_FORMS], true, 15, 999999999999999 - i, 921599);
+}
+
+static size_t put_octets(uint8_t *to, const uint8_t *octets, size_t length)
+{
+    memcpy(to, octets, length);
+    return length;
+}
+
+#define PUT(to, ...) put_octets((to), (const uint8_t[]){__VA_ARGS__}, sizeof((const uint8_t[]){__VA_ARGS__}))
+
+/*
+ * Writes elements as a neighbour may: lengths in two or three octets, after the identifier of an invoke a linked one, and after the parts
+ * of an operation two elements that the module does not know. The parts are the SEQUENCE that does not begin with an object identifier.
+ */
+static size_t loosen(uint8_t *to, const uint8_t *octets, size_t length, bool invoke)
+{
+    size_t written = 0;
+
+    for (size_t at = 0; at < length; at += 2u + octets[at + 1]) {
+        const uint8_t *contents = octets + at + 2;
+        uint8_t tag = octets[at], inside[LONGEST_PARAMETER];
+        size_t size = octets[at + 1];
+
+        if (tag & 0x20) {
+            bool parts = tag == 0x30 && (size == 0 || contents[0] != 0x06);
+
+            size = loosen(inside, contents, size, tag == 0xA1);
+            if (parts) {
+                size += PUT(inside + size, 0x85, 2, 0, 1);
+                size += PUT(inside + size, 0xBF, 0x21, 5, 0x30, 3, 0x80, 1, 0);
+            }
+            contents = inside;
+            written += PUT(to + written, tag, 0x82, 0, (uint8_t)size);
+        } else {
+            written += PUT(to + written, tag, 0x81, (uint8_t)size);
+        }
+        written += put_octets(to + written, contents, size);
+        if (invoke && tag == 0x02)
+            written += PUT(to + written, 0x80, 1, 0);
+    }
+    return written;
+}
+
+/* The head of a parameter with so many octets of components. */
+static void put_head(struct octets *parameter, size_t components)
+{
+    PUT(parameter->bytes, 0x32, (uint8_t)(1 + components), 0x91);
+    parameter->length = 3 + components;
+}
+
+static void build_looser(void)
+{
+    build_usual();
+    for (size_t i = 0; i < PARAMETERS; i++) {
+        struct octets usual = parameters[i];
+
+        put_head(&parameters[i], loosen(parameters[i].bytes + 3, usual.bytes + 3, usual.length - 3, false));
+    }
+}
+
+static void build_several(void)
+{
+    static struct octets usual[PARAMETERS];
+
+    build_usual();
+    memcpy(usual, parameters, sizeof usual);
+    for (size_t i = 0; i < PARAMETERS; i++) {
+        size_t written = 0;
+
+        for (size_t j = i; j < i + 3 + i % 4; j++) {
+            const struct octets *next = &usual[j % PARAMETERS];
+
+            if (written + next->length > LONGEST_PARAMETER)
+                break;
+            written += put_octets(parameters[i].bytes + 3 + written, next->bytes + 3, next->length - 3);
+        }
+        put_head(&parameters[i], written);
+    }
+}
+
+/* The place of the contents of the first element with this tag in a parameter, at any depth; 0 where there is none. */
+static size_t find(const struct octets *parameter, uint8_t tag)
+{
+    size_t at = 3;
+
+    while (at < parameter->length) {
+        if (parameter->bytes[at] == tag)
+            return at + 2;
+        at += parameter->bytes[at] & 0x20 ? 2u : 2u + parameter->bytes[at + 1];
+    }
+    return 0;
+}
+
+/* Makes something wrong: which, goes by the ordinal. What it takes and the parameter does not have is wrong at the parameter's end. */
+static void damage(struct octets *parameter, size_t which)
+{
+    uint8_t *bytes = parameter->bytes;
+    size_t at = 0;
+
+    switch (which) {
+    case 0: /* 11: a byte lacks, in the parameter or in its component */
+        parameter->length--;
+        return;
+    case 1:
+        put_head(parameter, parameter->length - 4);
+        return;
+    case 2: /* 12: a byte too many */
+        bytes[1]--;
+        return;
+    case 3: /* 14: another parameter, another profile, no component of REV */
+        bytes[0] = 0x33;
+        return;
+    case 4:
+        bytes[2] = 0x92;
+        return;
+    case 5:
+        bytes[3] = 0xA5;
+        return;
+    case 6: /* 12: an indefinite length */
+        bytes[4] = 0x80;
+        return;
+    case 7: /* 12: the identifier passes the end; 14: it is another type */
+        bytes[6] = 0x7F;
+        return;
+    case 8:
+        bytes[5] = 0x0A;
+        return;
+    case 9: /* 14: an operation or an error that the module has not */
+        at = find(parameter, 0x06);
+        if (at != 0)
+            bytes[at + 6] = 0x0D;
+        break;
+    case 10: /* 14: a number of another nature, or with a digit above 9 */
+        at = find(parameter, 0x81);
+        if (at != 0)
+            bytes[at] = 0x01;
+        break;
+    case 11:
+        at = find(parameter, 0x81);
+        if (at != 0)
+            bytes[at + 2] = 0x2A;
+        break;
+    default: /* 13: an operation whose unknown elements are one in another */
+        put_head(parameter, PUT(bytes + 3, 0xA1, 0x1C, 2, 1, 1, 6, 7, 0, 0x11, 0x85, 0x60, 3, 1, 1, 0x30, 0x0E, 0x30, 0x0C, 0x30, 0x0A,
+                                0x30, 8, 0x30, 6, 0x30, 4, 0x30, 2, 5, 0));
+        return;
+    }
+    if (at == 0)
+        put_head(parameter, parameter->length - 3 + PUT(bytes + parameter->length, 0x05));
+}
+
+static void build_refused(void)
+{
+    static struct octets full[PARAMETERS];
+
+    build_full();
+    memcpy(full, parameters, sizeof full);
+    build_usual();
+    for (size_t i = 0; i < PARAMETERS; i++) {
+        if (i % 3 == 0)
+            parameters[i] = full[i];
+        damage(&parameters[i], i % 13);
+    }
+}
+
+static size_t read_all(const struct wires *side)
+{
+    size_t length = 0;
+
+    for (size_t i = 0; i < PARAMETERS; i++)
+        length += rest(side->read(parameters[i].bytes, parameters[i].length, MESSAGE, CAUSE, out, ENTRIES_ROOM));
+    return length;
+}
+
+static size_t send_all(const struct wires *side)
+{
+    size_t length = 0;
+
+    for (size_t i = 0; i < PARAMETERS; i++)
+        length += rest(side->send(entries[i].bytes, entries[i].length, out, ENTRIES_ROOM));
+    return length;
+}
+
+/* Reads or writes all parameters that were built. */
+typedef size_t exchange(const struct wires *side);
+
+static const struct exchanged {
+    const char *option, *name;
+    void (*build)(void);
+    exchange *exchange;
+    bool refused;
+} exchanges[] = {
+    {"--read", "usual", build_usual, read_all, false},     {"--read", "full", build_full, read_all, false},
+    {"--read", "looser", build_looser, read_all, false},   {"--read", "several", build_several, read_all, false},
+    {"--read", "refused", build_refused, read_all, true},  {"--send", "usual", build_usual, send_all, false},
+    {"--send", "full", build_full, send_all, false},
+};
+
+enum { EXCHANGES = sizeof exchanges / sizeof *exchanges };
+
 /* ---- The check ---- */
 
 static int is_filler(const uint8_t *from, const uint8_t *end)
@@ -314,6 +642,49 @@ static size_t check_writing(writing *write)
     return length;
 }
 
+/* What a side gives for one parameter in so much room. */
+static uint32_t give(const struct exchanged *exchanged, const struct wires *side, size_t i, size_t room)
+{
+    memset(out, FILLER, 2 * ENTRIES_ROOM);
+    if (exchanged->exchange == read_all)
+        return side->read(parameters[i].bytes, parameters[i].length, MESSAGE, CAUSE, out, room);
+    return side->send(entries[i].bytes, entries[i].length, out, room);
+}
+
+/* Whether all give the same for one parameter in so much room, and the same bytes; sets what they give. */
+static int same(const struct exchanged *exchanged, size_t i, size_t room, uint32_t *given)
+{
+    *given = give(exchanged, &wires[PLAIN], i, room);
+    memcpy(expected, out, 2 * ENTRIES_ROOM);
+    for (int which = 0; which < LISTINGS; which++)
+        if (wires[which].read != NULL && (give(exchanged, &wires[which], i, room) != *given ||
+                                          memcmp(out, expected, 2 * ENTRIES_ROOM) != 0))
+            return 0;
+    return 1;
+}
+
+/*
+ * Builds the parameters; gives how many bytes they have if all sides read or write them alike, in enough room, in just enough and in a byte
+ * less, and refuse exactly those that are to be refused; else 0.
+ */
+static size_t check_exchange(const struct exchanged *exchanged)
+{
+    size_t length = 0;
+
+    exchanged->build();
+    for (size_t i = 0; i < PARAMETERS; i++) {
+        uint32_t given, other;
+
+        if (!same(exchanged, i, ENTRIES_ROOM, &given) || (REV_NUMBER(given) != REV_WRITTEN) != exchanged->refused)
+            return 0;
+        if (!exchanged->refused && (!same(exchanged, i, rest(given), &other) || other != given ||
+                                    !same(exchanged, i, rest(given) - 1, &other) || other != TOO_LONG))
+            return 0;
+        length += parameters[i].length;
+    }
+    return length;
+}
+
 static size_t count_records(size_t length)
 {
     size_t records = 0;
@@ -334,22 +705,29 @@ static int64_t now(void)
     return (int64_t)time.tv_sec * 1000000000 + time.tv_nsec;
 }
 
-/* What is timed: a listing of `file`, or else the writing of some records. Nothing where it is not linked. */
+/*
+ * What is timed: a listing of `file`, or the writing of some records, or the reading or writing of all parameters. Nothing where it is not
+ * linked.
+ */
 struct work {
     listing *list;
     size_t file_len, room;
     writing *write;
     const struct writers *writers;
+    exchange *exchange;
+    const struct wires *wires;
 };
 
 static int is_there(const struct work *work)
 {
-    return work->list != NULL || work->write != NULL;
+    return work->list != NULL || work->write != NULL || work->exchange != NULL;
 }
 
 static size_t do_work(const struct work *work)
 {
-    return work->list != NULL ? work->list(file, work->file_len, out, work->room) : work->write(work->writers);
+    if (work->list != NULL)
+        return work->list(file, work->file_len, out, work->room);
+    return work->write != NULL ? work->write(work->writers) : work->exchange(work->wires);
 }
 
 static int64_t time_calls(const struct work *work, long calls)
@@ -398,7 +776,7 @@ static void time_all(const struct work works[LISTINGS], double best[LISTINGS])
 
 static void time_listings(size_t file_len, size_t room, double best[LISTINGS])
 {
-    struct work works[LISTINGS] = {{NULL}};
+    struct work works[LISTINGS] = {{.list = NULL}};
 
     for (int i = 0; i < LISTINGS; i++)
         works[i] = (struct work){.list = listings[i], .file_len = file_len, .room = room};
@@ -407,11 +785,21 @@ static void time_listings(size_t file_len, size_t room, double best[LISTINGS])
 
 static void time_writing(writing *write, double best[LISTINGS])
 {
-    struct work works[LISTINGS] = {{NULL}};
+    struct work works[LISTINGS] = {{.list = NULL}};
 
     for (int i = 0; i < LISTINGS; i++)
         if (has_writers(i))
             works[i] = (struct work){.write = write, .writers = &writers[i]};
+    time_all(works, best);
+}
+
+static void time_exchange(exchange *exchange, double best[LISTINGS])
+{
+    struct work works[LISTINGS] = {{.list = NULL}};
+
+    for (int i = 0; i < LISTINGS; i++)
+        if (wires[i].read != NULL)
+            works[i] = (struct work){.exchange = exchange, .wires = &wires[i]};
     time_all(works, best);
 }
 
@@ -507,11 +895,36 @@ static int writing_table(void)
     return 0;
 }
 
+static int exchange_table(void)
+{
+    printf("\nThe same for %d parameters, read (--read) or written (--send) one by one.\n\n", PARAMETERS);
+    printf("%-6s %-9s %11s %14s %12s %12s %10s\n", "", "input", "parameters", "bytes", "rev ns", "plain ns", "rev/plain");
+    for (int k = 0; k < EXCHANGES; k++) {
+        size_t length = check_exchange(&exchanges[k]);
+        double ns[LISTINGS];
+
+        if (length == 0) {
+            fprintf(stderr, "bench: what %s gives of %s differs\n", exchanges[k].option, exchanges[k].name);
+            return 1;
+        }
+        time_exchange(exchanges[k].exchange, ns);
+        printf("%-6s %-9s %11d %14zu %12.0f %12.0f %10.2f\n", exchanges[k].option, exchanges[k].name, PARAMETERS, length, ns[REV],
+               ns[PLAIN], ns[REV] / ns[PLAIN]);
+        fflush(stdout);
+    }
+    printf("\nAll numbers and bytes were the same. (sum %llu)\n", (unsigned long long)sum);
+    return 0;
+}
+
 static int tables(int roomy, enum output output)
 {
     int status = table(roomy, output);
 
-    return status == 0 && output != FIGURES ? writing_table() : status;
+    if (status == 0 && output != FIGURES)
+        status = writing_table();
+    if (status == 0 && output != FIGURES)
+        status = exchange_table();
+    return status;
 }
 
 /* Reads a number from 0 to `most`; gives whether it is one. */
@@ -573,6 +986,30 @@ static int write_once(const char *which, const char *kind_name, const char *call
     return 2;
 }
 
+static int exchange_once(const char *option, const char *which, const char *kind_name, const char *calls_text)
+{
+    enum which chosen;
+    unsigned long calls;
+
+    if (!read_which(which, &chosen) || !read_number(calls_text, 1000000, &calls))
+        return 2;
+    for (int k = 0; k < EXCHANGES; k++) {
+        if (strcmp(exchanges[k].option, option) == 0 && strcmp(exchanges[k].name, kind_name) == 0) {
+            size_t length = check_exchange(&exchanges[k]);
+
+            if (length == 0) {
+                fprintf(stderr, "bench: what %s gives of %s differs\n", option, kind_name);
+                return 1;
+            }
+            for (unsigned long i = 0; i < calls; i++)
+                sum += exchanges[k].exchange(&wires[chosen]);
+            printf("%s: %s, %d parameters of %zu bytes\n", which, kind_name, PARAMETERS, length);
+            return 0;
+        }
+    }
+    return 2;
+}
+
 int main(int count, char **words)
 {
     int roomy = count > 1 && strcmp(words[1], "--roomy") == 0;
@@ -590,9 +1027,13 @@ int main(int count, char **words)
         status = once(roomy, words[2], words[3], words[4], count == 6 ? words[5] : "1");
     else if ((count == 4 || count == 5) && !roomy && strcmp(words[1], "--write") == 0)
         status = write_once(words[2], words[3], count == 5 ? words[4] : "1");
+    else if ((count == 4 || count == 5) && !roomy)
+        status = exchange_once(words[1], words[2], words[3], count == 5 ? words[4] : "1");
     if (status == 2)
         fputs("usage: bench [--roomy] [--once rev|plain call|messages|expiries 1..64 [CALLS]]\n"
               "       bench --write rev|plain call|messages|expiries|times [CALLS]\n"
+              "       bench --read rev|plain usual|full|looser|several|refused [CALLS]\n"
+              "       bench --send rev|plain usual|full [CALLS]\n"
               "       bench [--roomy] --figures | --emulated\n",
               stderr);
     return status;

@@ -133,25 +133,7 @@ static struct digits read_digits(const uint8_t *at)
 /* Count 1 to 15, and a value below 10 to the count, of either nature. */
 static int digits_in_range(struct digits digits)
 {
-    static const uint64_t ten_to[16] = {
-        1u,
-        10u,
-        100u,
-        1000u,
-        10000u,
-        100000u,
-        1000000u,
-        10000000u,
-        100000000u,
-        1000000000u,
-        10000000000u,
-        100000000000u,
-        1000000000000u,
-        10000000000000u,
-        100000000000000u,
-        1000000000000000u,
-    };
-    return digits.count >= 1 && digits.count <= 15 && digits.value < ten_to[digits.count];
+    return plain_digits_fit(digits.count, digits.value);
 }
 
 /* Where there is no number, it is national. */

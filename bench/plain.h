@@ -1,4 +1,4 @@
-/* The listing of an event file, and writers of its records, in plain C. */
+/* The listing of an event file, writers of its records, and a reader and a writer of the Remote operations parameter, in plain C. */
 #ifndef PLAIN_H
 #define PLAIN_H
 
@@ -27,5 +27,44 @@ uint32_t plain_write_message(uint8_t message, uint8_t cause, uint8_t component, 
 uint32_t plain_write_access(uint8_t told, uint8_t error, uint8_t *out, size_t out_len);
 uint32_t plain_write_expiry(uint8_t *out, size_t out_len);
 uint32_t plain_write_time(uint32_t seconds, uint8_t *out, size_t out_len);
+
+/*
+ * Reads the whole parameter at `parameter` and writes an entry for each of its components to `out`, or one of no component: the identifier
+ * in two bytes, of which 256 is none, and the record of kind 3 with this message and cause. Gives a number and in the bits above its byte
+ * a place or a length: 11 to 14 and the place; 3 where message or cause is out of its range; 8 where the entries have more than `out_len`
+ * bytes; else 0 and how many they have. Bytes of `out` past them stay as they are, all of them on a refusal. The two must not overlap.
+ */
+uint32_t plain_read_parameter(const uint8_t *parameter, size_t parameter_len, uint8_t message, uint8_t cause, uint8_t *out, size_t out_len);
+
+/*
+ * Writes the parameter with the component of one entry to `out`. What follows the entry is not looked at. Gives 5, 6 or 7 where its record
+ * cannot be read; 3 where it is of another kind or its component cannot be written; 8 where the parameter has more than `out_len` bytes;
+ * else 0 and, in the bits above its byte, the parameter's length. For `out` the same holds.
+ */
+uint32_t plain_write_parameter(const uint8_t *entry, size_t entry_len, uint8_t *out, size_t out_len);
+
+/* Whether a number has 1 to 15 digits and a value of so many. */
+static inline bool plain_digits_fit(unsigned count, uint64_t value)
+{
+    static const uint64_t ten_to[16] = {
+        1u,
+        10u,
+        100u,
+        1000u,
+        10000u,
+        100000u,
+        1000000u,
+        10000000u,
+        100000000u,
+        1000000000u,
+        10000000000u,
+        100000000000u,
+        1000000000000u,
+        10000000000000u,
+        100000000000000u,
+        1000000000000000u,
+    };
+    return count >= 1 && count <= 15 && value < ten_to[count];
+}
 
 #endif

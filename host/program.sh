@@ -4,7 +4,9 @@
 #   run_program NAME WHAT [WORDS..]     WHAT: what it does, for the help; WORDS: the script's own
 #
 # A script may set, after it has sourced this: longest, the bytes that a file may have; and single=yes, for a program that takes one file,
-# and whose answer is bytes and not a text: it tells a refusal on standard error and has no answer then.
+# and whose answer may be bytes and not a text: it tells a refusal on standard error and has no answer then. One whose program has another
+# name, or options, sets made_by, the name of the program's crate; and options, the options for the program, takes, how the help has these,
+# and means, the help's lines on them.
 #
 # A program of the kit has no exit status, and does not tell that it could not read or write. So the script reads the file, keeps the
 # program's answer and copies it to standard output: each of these is seen to fail, and told on standard error.
@@ -15,11 +17,12 @@ root=$(dirname "$(readlink -f "$0")")
 . "$root/host/kit.sh"
 
 longest=65536 # bytes of an event file (docs/FORMAT.md)
-single=
+single='' made_by='' options='' takes='' means=''
 
 run_program() {
     name=$1 what=$2
     shift 2
+    : "${made_by:=$name}"
     # first of all, since a file that is opened would take the place of a closed one
     (true 3>&1) 2>/dev/null || stop "standard output is closed"
     closed=
@@ -38,7 +41,7 @@ run_program() {
     esac
     [ $# -gt 0 ] || set -- -
     [ -z "$single" ] || [ $# -eq 1 ] || stop "one file alone: $name --help says more"
-    program=$root/target/bin/$name
+    program=$root/target/bin/$made_by
     room=$(mktemp -d 2>/dev/null) || stop "there is no room for temporary files"
     trap 'rm -rf "$room"' EXIT
     trap 'exit 129' HUP
@@ -58,14 +61,15 @@ run_program() {
 }
 
 usage() {
-    echo "usage: $name [FILE]$([ -n "$single" ] || echo ..)"
+    echo "usage: $name $takes${takes:+ }[FILE]$([ -n "$single" ] || echo ..)"
     echo
     echo "$what"
     echo "Without FILE, or where FILE is -, it reads standard input."
     [ -n "$single" ] || echo "Of several files each stands under a line with its name: ==> FILE <=="
     cat <<END
 
-  -h, --help    print this
+${means:+$means
+}  -h, --help    print this
   --version     print the version, and the kit that it is for
   --            what follows is a FILE
 
@@ -84,7 +88,7 @@ build() {
     command -v rt >/dev/null || stop "the program is not built yet, and the Rattle kit, whose command rt builds it, is not on the path"
     mkdir -p "$root/target" 2>/dev/null
     { [ -d "$root/target" ] && [ -w "$root/target" ]; } || stop "the program is built at its first run, and $root/target cannot be written"
-    crates=$(awk -F: -v name="$name" '
+    crates=$(awk -F: -v name="$made_by" '
         $1 == name { rests = " " $2 " " }
         { order[++n] = $1 }
         END { for (i = 1; i <= n; i++) if (order[i] == name || index(rests, " " order[i] " ")) print order[i] }' "$root/crates.txt")
@@ -94,7 +98,7 @@ build() {
     count=0
     for crate do
         count=$((count + 1))
-        case $crate in rows | files) long="some minutes" ;; *) long="some seconds" ;; esac
+        case $crate in rows | files | wire) long="some minutes" ;; *) long="some seconds" ;; esac
         say "proving $crate ($count of $#), $long"
         if ! (cd "$root" && rt check "$crate") </dev/null >"$root/target/$name.log" 2>&1; then
             cat "$root/target/$name.log" >&2
@@ -141,14 +145,16 @@ answer() {
 
 # The answer, which is never empty. The status is that of cat, which sees whether all was written.
 take_text() {
-    run_x86_64 "$program" <"$room/file" | cat >"$room/answer" || stop "temporary files cannot be written"
+    # shellcheck disable=SC2086 # an option a word
+    run_x86_64 "$program" $options <"$room/file" | cat >"$room/answer" || stop "temporary files cannot be written"
     [ -s "$room/answer" ] || stop "$program gives no answer"
 }
 
 # The answer, which may be empty. Fails, with the status to give in $refused, where the program told something: a refusal. What it did not
 # say itself tells that it was not run to its end.
 take_bytes() {
-    told=$({ { run_x86_64 "$program" <"$room/file" || echo "it ends with $?" >&2; } | cat >"$room/answer"; } 2>&1) ||
+    # shellcheck disable=SC2086 # an option a word
+    told=$({ { run_x86_64 "$program" $options <"$room/file" || echo "it ends with $?" >&2; } | cat >"$room/answer"; } 2>&1) ||
         stop "temporary files cannot be written"
     case $told in
     '') return ;;

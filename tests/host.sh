@@ -12,8 +12,8 @@ sh host/c/build
 . host/kit.sh
 archive=target/staticlib/librev.a
 room=target/host
-functions='rev_dump rev_listing rev_same_number '
-functions=$functions'rev_write_access rev_write_expiry rev_write_message rev_write_opening rev_write_request rev_write_time '
+functions='rev_dump rev_listing rev_read_parameter rev_same_number '
+functions=$functions'rev_write_access rev_write_expiry rev_write_message rev_write_opening rev_write_parameter rev_write_request rev_write_time '
 # so that a finding is none of the example's own statuses
 export ASAN_OPTIONS=exitcode=99 UBSAN_OPTIONS=exitcode=99
 

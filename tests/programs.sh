@@ -1,6 +1,7 @@
 #!/bin/sh
-# programs.sh: ./listing, ./dump and ./record as a user meets them: options, several files, what cannot be read or written, the first run.
-# What a program answers to a file is not looked at here: tests/cases.sh, tests/dump.sh and tests/record.sh do that.
+# programs.sh: ./listing, ./dump, ./record and ./wire as a user meets them: options, several files, what cannot be read or written, the
+# first run. What a program answers to a file is not looked at here: tests/cases.sh, tests/dump.sh, tests/record.sh and tests/wire.sh do
+# that.
 set -eu
 cd "$(dirname "$0")/.."
 # shellcheck source=host/kit.sh
@@ -14,7 +15,7 @@ right=0 wrong=0
 
 # The program's own answer to a file.
 answer() {
-    run_x86_64 "target/bin/$name" <"$1"
+    run_x86_64 "target/bin/$program" <"$1"
 }
 
 # try WHAT STATUS TOLD COMMAND..: the command's status, what it tells on standard error (TOLD, one line or more, or nothing), and its
@@ -50,11 +51,22 @@ $name: tests: is a folder" sh -c "./$name none '$file' tests - <'$other'"
     try "standard output that nobody reads to its end" 0 "" sh -c "./$name '$file' '$file' '$file' | sed -n '2{p;q;}'"
 }
 
-# What a program does that takes one file, and may refuse it.
-with_one() {
+# What record does with a file that it refuses, and wire.
+with_text() {
     try "a file without an end" 1 "$name: REFUSED 8: the text has more than 1,048,576 bytes" "./$name" /dev/zero
     try "a file that is refused" 1 "$name: line 1: not known: no record has these words" "./$name" "$other"
     try "standard input that is refused" 1 "$name: line 1: not known: no record has these words" sh -c "./$name <'$other'"
+}
+with_bytes() {
+    printf 'REFUSED 8\n' >"$room/wanted"
+    try "a file without an end" 0 "" "./$name" /dev/zero
+    refusal="$name: not hexadecimal: not two digits an octet, with blanks and line ends"
+    try "a file that is refused" 1 "$refusal" "./$name" -x "$other"
+    try "standard input that is refused" 1 "$refusal" sh -c "./$name -x <'$other'"
+}
+
+# What a program does that takes one file, and may refuse it.
+with_one() {
     try "two files" 2 "$name: one file alone: $name --help says more" "./$name" "$file" "$file"
     try "standard input and a file" 2 "$name: one file alone: $name --help says more" "./$name" - "$file"
     answer "$file" | head -c 4 >"$room/wanted"
@@ -64,19 +76,25 @@ with_one() {
     mkdir -p "$copy/host" "$copy/target/bin"
     cp "$name" "$copy"
     cp host/*.sh "$copy/host"
-    printf '#!/bin/sh\nprintf abc\nexit 3\n' >"$copy/target/bin/$name"
-    chmod +x "$copy/target/bin/$name"
+    printf '#!/bin/sh\nprintf abc\nexit 3\n' >"$copy/target/bin/$program"
+    chmod +x "$copy/target/bin/$program"
     if [ "$(uname -m)" = x86_64 ]; then
-        try "a program that fails" 2 "$name: $copy/target/bin/$name does not run: it ends with 3" "$copy/$name" "$file"
+        try "a program that fails" 2 "$name: $copy/target/bin/$program does not run: it ends with 3" "$copy/$name" "$file"
     fi
     rm -r "$copy"
 }
 
 mkdir "$room/bin" "$room/tools"
 for tool in awk cat dirname grep head mkdir mktemp readlink rm sed sh uname; do ln -s "$(command -v $tool)" "$room/tools/$tool"; done
-for name in listing dump record; do
-    file=$here/examples/room-pays.rev
-    [ $name != record ] || file=$here/examples/room-pays.words
+# a parameter of two components
+printf '\062\027\221\243\014\002\001\001\006\007\000\021\205\140\003\001\005\244\006\002\001\002\200\001\000' >"$room/parameter"
+for name in listing dump record wire; do
+    # its program, a file for it, and the crates that it is proved with, in order; refuse: the one that is refused in a first run
+    file=$here/examples/room-pays.rev program=$name crates="meters rows text files $name" refuse=rows
+    case $name in
+    record) file=$here/examples/room-pays.words ;;
+    wire) file=$room/parameter program=wireline crates="text wire wireline" refuse=wire ;;
+    esac
     # builds it if it is missing
     "./$name" "$file" >/dev/null
 
@@ -93,7 +111,8 @@ for name in listing dump record; do
     answer /dev/null >"$room/wanted"
     try "an empty file" 0 "" "./$name" /dev/null
     case $name in
-    record) with_one ;;
+    record) with_text && with_one ;;
+    wire) with_bytes && with_one ;;
     *) with_several ;;
     esac
 
@@ -119,12 +138,12 @@ for name in listing dump record; do
         { echo "$name: reading standard input, which is a terminal ($name --help says more)" && answer /dev/null; } >"$room/wanted"
         try "a terminal" 0 "" sh -c "timeout 60 script -qec ./$name /dev/null </dev/null | tr -d '\\r\\b' | sed 's/\\^D//'"
     fi
-    try "an option that is none" 2 "$name: -x is no option: $name --help says which there are" "./$name" -x
+    try "an option that is none" 2 "$name: -z is no option: $name --help says which there are" "./$name" -z
     try "a file with the name of an option" 2 "$name: -x: no such file" "./$name" -- -x
 
     for option in -h --help; do
         sh -c "./$name $option" >"$room/wanted"
-        grep -q "^usage: $name \[FILE\]" "$room/wanted" || : >"$room/wanted"
+        grep -q "^usage: $name .*\[FILE\]" "$room/wanted" || : >"$room/wanted"
         try "$option" 0 "" "./$name" $option
     done
     printf '%s\nfor the Rattle kit %s\n' "$(sh -c "./$name --version | head -n 1")" "$(cat KIT)" >"$room/wanted"
@@ -147,29 +166,33 @@ for name in listing dump record; do
 [ "\$2" != "\${REFUSE-}" ] || { echo "\$2: error" && exit 1; }
 echo "fn \$2::f: proved"
 echo "rt: \$2 proved (1 s)"
-[ "\$2" != $name ] || { mkdir -p target/bin && cp "$here/target/bin/$name" target/bin; }
+[ "\$2" != $program ] || { mkdir -p target/bin && cp "$here/target/bin/$program" target/bin; }
 END
     chmod +x "$room/bin/rt"
-    first="$name: the first run proves and builds the program: 5 crates, some minutes in all
-$name: proving meters (1 of 5), some seconds
-rt: meters proved (1 s)
-$name: proving rows (2 of 5), some minutes"
+    # what is told of the crates, up to the one that is refused, and of all
+    # shellcheck disable=SC2086 # a crate a word
+    set -- $crates
+    steps="$name: the first run proves and builds the program: $# crates, some minutes in all"
+    count=0
+    for crate do
+        count=$((count + 1))
+        case $crate in rows | files | wire) long="some minutes" ;; *) long="some seconds" ;; esac
+        steps="$steps
+$name: proving $crate ($count of $#), $long"
+        [ "$crate" != $refuse ] || first=$steps
+        steps="$steps
+rt: $crate proved (1 s)"
+    done
+    every=$steps
     try "a first run without the file" 2 "$name: none: no such file" env PATH="$room/bin:$PATH" "$copy/$name" none
     try "a first run without the kit" 2 \
         "$name: the program is not built yet, and the Rattle kit, whose command rt builds it, is not on the path" \
         env PATH="$room/tools" "$copy/$name" "$file"
     try "a first run that is refused" 2 "$first
-rows: error
-$name: rows is not proved, or cannot be: rt says why, above" env PATH="$room/bin:$PATH" REFUSE=rows "$copy/$name" "$file"
+$refuse: error
+$name: $refuse is not proved, or cannot be: rt says why, above" env PATH="$room/bin:$PATH" REFUSE=$refuse "$copy/$name" "$file"
     answer "$file" >"$room/wanted"
-    try "a first run" 0 "$first
-rt: rows proved (1 s)
-$name: proving text (3 of 5), some seconds
-rt: text proved (1 s)
-$name: proving files (4 of 5), some minutes
-rt: files proved (1 s)
-$name: proving $name (5 of 5), some seconds
-rt: $name proved (1 s)" env PATH="$room/bin:$PATH" "$copy/$name" "$file"
+    try "a first run" 0 "$every" env PATH="$room/bin:$PATH" "$copy/$name" "$file"
     answer "$file" >"$room/wanted"
     try "a second run" 0 "" env PATH="$room/bin:$PATH" "$copy/$name" "$file"
     rm -r "$copy/target"

@@ -2,7 +2,7 @@
 # scripts.sh: shellcheck finds nothing in the shell scripts, each that is run can be, and each that takes an argument says so without one.
 set -eu
 cd "$(dirname "$0")/.."
-scripts=$(grep -lrE '^#!(/bin/sh|/usr/bin/env bash)$' listing dump record bench host tests .ci | sort)
+scripts=$(grep -lrE '^#!(/bin/sh|/usr/bin/env bash)$' listing dump record wire bench host tests .ci | sort)
 fail=0
 for script in $scripts; do
     if [ ! -x "$script" ]; then

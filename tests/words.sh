@@ -1,7 +1,8 @@
 #!/bin/sh
 # words.sh: docs/FORMAT.md is the one home of a listing's words and numbers. Its tables of phases, states, actions and numbers given back,
 # and what it says that a message carries, are just what the definitions write; it has the words of a dump; and each word of a listing,
-# each error and each number given back that README.md or a manual page names stands in it. Needs awk.
+# each error and each number given back that README.md or a manual page names stands in it. man/wire.1 is the page of a component's line,
+# which is no line of a listing: it has the words that the definitions of that line write. Needs awk.
 set -eu
 cd "$(dirname "$0")/.."
 room=$(mktemp -d)
@@ -67,6 +68,15 @@ done <"$room/written"
 # README.md and the manual pages: a manual's hyphens are \-, and its macros are no text
 for page in README.md man/*.1; do
     sed -e 's/\\-/-/g' -e 's/\\f[A-Z]//g' -e 's/^\.\(BI\|BR\|IR\|[BI]\) //' -e '/^\.\(SH\|TH\|\\"\)/d' "$page" >"$room/text"
+    if [ "$page" = man/wire.1 ]; then
+        cat crates/wireline/specs/Lines.antt crates/wireline/specs/Answers.antt >"$room/specs"
+        written ascii "$room/specs" >"$room/written"
+        while IFS= read -r word; do
+            grep -qF -- "$word" "$room/text" || { echo "words: the definitions have \"$word\", $page not" && fail=1; }
+            all=$((all + 1))
+        done <"$room/written"
+        continue
+    fi
     # each word in capitals stands in docs/FORMAT.md, but for these: names that are no words of a listing
     grep -oE '[A-Z][A-Z-]+[A-Za-z.]*' "$room/text" | grep -vE '\.(md|antt)$|[a-z]' | sed 's/[.-]*$//' | grep -E '...' |
         grep -vxE 'ISDN|ITU-T|KIT|FILE|ASCII|DESCRIPTION|PERFORMANCE|STATEMENTS|DECISIONS' | sort -u >"$room/named"
@@ -97,5 +107,5 @@ for page in README.md man/*.1; do
         } }
         END { exit bad }' "$room/text" || fail=1
 done
-[ $fail -eq 0 ] && echo "words: docs/FORMAT.md has the $all words and numbers of the definitions, and each that README.md and man/ name"
+[ $fail -eq 0 ] && echo "words: docs/FORMAT.md and man/wire.1 have the $all words and numbers of the definitions; FORMAT.md each that README.md and man/ name"
 exit $fail

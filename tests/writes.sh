@@ -20,24 +20,6 @@ sh host/c/build
 cargo build --quiet --release --offline --manifest-path host/reference/Cargo.toml --target-dir target/reference
 # the plain writers' records are read back by the library's dump, as the others are
 build_x86_64 target/host/plain-writes -DPLAIN -Ibench host/c/writes.c bench/plain.c target/staticlib/librev.a
-cat >target/host/serve-writes <<'SERVE'
-#!/bin/sh
-. host/kit.sh
-run_x86_64 "$@"
-SERVE
-
-# compare NAME PROGRAM: what it writes with what the model writes
-compare() {
-    status=0
-    target/reference/release/reference writes --count "$count" --seed "$seed" --keep target/host/difference.txt -- \
-        sh target/host/serve-writes "$2" >target/host/writes.log || status=$?
-    if [ $status -ne 0 ]; then
-        cat target/host/writes.log
-        echo "writes: $1: a difference, no answer, or a class not reached" >&2
-        exit $status
-    fi
-    tail -n 1 target/host/writes.log | sed "s/^/writes: $1: /"
-}
-compare "the proved writers" target/host/writes
-compare "the plain writers" target/host/plain-writes
+ask_served writes "the proved writers" target/host/writes
+ask_served writes "the plain writers" target/host/plain-writes
 tail -n 2 target/host/writes.log | sed -n 's/^least/writes: least/p'

@@ -1,7 +1,7 @@
 /*
- * The listing and the dump of an event file, writers of its records, and whether two telephone numbers are the same, for a host written in
- * C or C++ on x86-64. Link with librev.a, which host/c/build makes and which needs nothing else. docs/FORMAT.md has the file, the listing
- * and the dump.
+ * The listing and the dump of an event file, writers of its records, whether two telephone numbers are the same, and a reader and a writer
+ * of the ISUP Remote operations parameter, for a host written in C or C++ on x86-64. Link with librev.a, which host/c/build makes and which
+ * needs nothing else. docs/FORMAT.md has the file, the listing and the dump; docs/WIRE.md has the parameter.
  */
 #ifndef REV_H
 #define REV_H
@@ -24,7 +24,8 @@ extern "C" {
 
 /*
  * Given back by the listing and the dump in the place of a length, and never a length itself: every listing has at least 12 bytes, every
- * dump 10. Given back by a writer, which gives no length, where the record has more bytes than there is room.
+ * dump 10. Given back by a writer, which gives no length, where the record has more bytes than there is room; and by rev_read_parameter and
+ * rev_write_parameter, where what they would write has more.
  */
 #define REV_TOO_LONG 8u
 
@@ -32,11 +33,28 @@ extern "C" {
 #define REV_WRITTEN 0u
 #define REV_BAD_FIELD 3u
 
-/* The number of what a writer gave. */
+/* Given back by rev_read_parameter, with a place: cut short; a bad length; an element too deep; not a component of reverse charging. */
+#define REV_CUT_SHORT 11u
+#define REV_BAD_LENGTH 12u
+#define REV_TOO_DEEP 13u
+#define REV_NOT_OURS 14u
+
+/* The number of what was given; and the rest, which is a place or a count of bytes, and 0 from a writer of records. */
 #define REV_NUMBER(given) ((given) & 0xFFu)
+#define REV_REST(given) ((given) >> 8)
 
 /* The most bytes that a record has, its two length bytes among them. In so much room no writer gives REV_TOO_LONG. */
 #define REV_RECORD 31u
+
+/*
+ * Room for the entries of any parameter: it has 254 bytes of components at most, the shortest component has 7 and an entry of 11, and no
+ * other has more bytes of entry for its own. Room for any parameter that is written. In so much room there is no REV_TOO_LONG.
+ */
+#define REV_ENTRIES 396u
+#define REV_PARAMETER 41u
+
+/* In an entry: the component has no identifier, as a reject may have none. Others have 0 to 255. */
+#define REV_NO_IDENTIFIER 256u
 
 /* With it gcc and clang warn of a null pointer that they see, and their sanitizer finds one that they do not. */
 #ifdef __GNUC__
@@ -118,6 +136,53 @@ uint32_t rev_write_time(uint32_t seconds, uint8_t *out, size_t out_len) REV_NOT_
  */
 bool rev_same_number(bool international, uint8_t count, uint64_t value, bool other_international, uint8_t other_count,
                      uint64_t other_value);
+
+/*
+ * An entry is one component that a message carries: its invoke identifier in two bytes, the least first, 0 to 255 or REV_NO_IDENTIFIER;
+ * then the whole record of kind 3, as rev_write_message writes it. It has 2 + rev_record_length(entry + 2) bytes.
+ *
+ * rev_read_parameter reads the parameter_len bytes at `parameter`, a whole parameter with its name, its length and nothing after it, which
+ * came in a message of this kind (1 to 5) with this cause (0 to 127). It writes the entries of its components to the out_len bytes at
+ * `out`, one after another, in their order; where it has none, one entry with component 0 and REV_NO_IDENTIFIER. What it gives has a number
+ * (REV_NUMBER) and a rest (REV_REST); the numbers are looked for in this order:
+ *
+ *   REV_CUT_SHORT    these four: the parameter is refused, and the rest is the place, in bytes from 0. It is read once, from left to
+ *   REV_BAD_LENGTH   right, and this is the first of them at the first place that has one; docs/WIRE.md says which where
+ *   REV_TOO_DEEP
+ *   REV_NOT_OURS
+ *   REV_BAD_FIELD    message or cause is out of its range; the rest is 0
+ *   REV_TOO_LONG     the entries have more than out_len bytes; the rest is 0
+ *   REV_WRITTEN      the entries stand at `out`; the rest is how many bytes they have, 11 at least
+ *
+ * rev_write_parameter reads one entry in the entry_len bytes at `entry`, and writes the whole parameter with that component to the out_len
+ * bytes at `out`. What follows the entry is not looked at. It gives
+ *
+ *   5, 6, 7          the record cannot be read, for the reasons of an event file (docs/FORMAT.md); 5 also where there are not two bytes, or
+ *                    none after them
+ *   REV_BAD_FIELD    the record is of another kind, a field of it is out of its range, or its component cannot be written: component 0; an
+ *                    error that is none of 4 to 12; a part that this component has no place for; a Duration above 921,599 seconds; an
+ *                    identifier above 256, or none but in a reject
+ *   REV_TOO_LONG     the parameter has more than out_len bytes
+ *   REV_WRITTEN      the parameter stands at `out`; the rest is its length. Of each other number the rest is 0
+ *
+ * Bytes of `out` past what was written are as they were, and on every number but REV_WRITTEN all of them are. A parameter that was written
+ * is read back as its one component; one that came may be written with other bytes, and fewer.
+ *
+ * To answer an invoke, put the identifier of its entry before the record of the answer. Nothing here compares identifiers.
+ *
+ * A Duration above 921,599 seconds (255:59:59) has no form in a parameter, though a record may have it and a call may send it: in case C
+ * with transfer, after so many seconds of the caller's. docs/WIRE.md, "The longest Duration", says what that means for a host.
+ *
+ * This holds for any bytes and any lengths, 0 among them. What they ask is what rev_listing asks: no pointer is null, even at length 0; the
+ * bytes are there; the two do not overlap. And C passes a message or a cause that is too large for its type without its high bits. They too
+ * keep nothing between calls, allocate nothing and call nothing.
+ *
+ * The promise is proved of crates/peers/src, which rests on crates/wire/src and crates/files/src. That these declarations fit it is tested
+ * (test.c, and wires.c against an independent model) and not proved. That REV_ENTRIES is enough is counted as above, and tested.
+ */
+uint32_t rev_read_parameter(const uint8_t *parameter, size_t parameter_len, uint8_t message, uint8_t cause, uint8_t *out,
+                            size_t out_len) REV_NOT_NULL;
+uint32_t rev_write_parameter(const uint8_t *entry, size_t entry_len, uint8_t *out, size_t out_len) REV_NOT_NULL;
 
 /* The bytes of a record that was written: its first two count those that follow them. */
 static inline size_t rev_record_length(const uint8_t *record)

@@ -9,6 +9,9 @@
  * number that was written, dump and listing show the nature.
  *
  * And of numbers, all pairs of some: they are the same where nature, count and value are, and nowhere else.
+ *
+ * And of parameters, read and written, with the same guards and rooms: a refusal gives its number and place in every room and changes
+ * nothing; else a room too small gives 8, and another has the entries, or the parameter, and every other byte as it was.
  */
 #define _DEFAULT_SOURCE /* MAP_ANONYMOUS */
 
@@ -357,6 +360,118 @@ static int same_numbers_are_told(void)
 
 /* ---- The files ---- */
 
+/* ---- Parameters ---- */
+
+enum { MESSAGE_KIND = 5, CAUSE = 0, ENTRY_BYTES = 2 + REV_RECORD, LONGEST_PARAMETER = 257 };
+
+/* Bytes that are lent, and what is wanted: the bytes that are written, or what is given where none are. */
+struct carried {
+    size_t given_len;
+    uint8_t given[64];
+    uint32_t refusal;
+    size_t wanted_len;
+    uint8_t wanted[2 * ENTRY_BYTES];
+};
+
+#define OPERATION(n) 0x06, 7, 0x00, 0x11, 0x85, 0x60, 0x03, 0x01, (n)
+#define RECORD_HEAD(len) (len), 0, 3, 0, MESSAGE_KIND, CAUSE
+#define NO_MORE 0
+
+static const struct carried read_parameters[] = {
+    /* none */
+    {3, {0x32, 1, 0x91}, 0, 11, {0, 1, RECORD_HEAD(7), 0, 0, 0}},
+    /* an invoke CALLED with every part */
+    {33,
+     {0x32, 31, 0x91, 0xA1, 28, 2, 1, 3, OPERATION(3), 0x30, 14, 0x80, 1, 0xFF, 0x81, 6, 0x83, 0x13, 0x55, 0x05, 0x21, 0x03, 0x82, 1, 0xFF},
+     0,
+     20,
+     {3, 0, RECORD_HEAD(16), 1, 3, 41, 7, 0x2B, 0xB0, 0x54, 0, 0, 0, 0, 0}},
+    /* an error and a reject without identifier */
+    {24,
+     {0x32, 22, 0x91, 0xA3, 12, 2, 1, 0x80, OPERATION(5), 0xA4, 5, 5, 0, 0x80, 1, 0},
+     0,
+     22,
+     {0x80, 0, RECORD_HEAD(7), 3, 5, 0, 0, 1, RECORD_HEAD(7), 4, 0, 0}},
+    {1, {0x32}, REV_CUT_SHORT, NO_MORE, {0}},
+    {4, {0x32, 1, 0x91, 0}, REV_BAD_LENGTH, NO_MORE, {0}},
+    {3, {0x33, 1, 0x91}, REV_NOT_OURS, NO_MORE, {0}},
+    {3, {0x32, 1, 0x92}, REV_NOT_OURS + 256 * 2, NO_MORE, {0}},
+    {18, {0x32, 16, 0x91, 0xA3, 12, 2, 1, 1, OPERATION(5), 0}, REV_CUT_SHORT + 256 * 17, NO_MORE, {0}},
+    {19, {0x32, 17, 0x91, 0xA1, 14, 2, 1, 1, OPERATION(1), 0x30, 1}, REV_BAD_LENGTH + 256 * 17, NO_MORE, {0}},
+    {33, {0x32, 31, 0x91, 0xA1, 28, 2,    1,    1,    OPERATION(1), 0x30, 14,   0x30, 12, 0x30, 10, 0x30,
+          8,    0x30, 6,    0x30, 4, 0x30, 2, 5, 0},
+     REV_TOO_DEEP + 256 * 31, NO_MORE, {0}},
+};
+
+static const struct carried written_parameters[] = {
+    {20,
+     {3, 0, RECORD_HEAD(16), 1, 3, 41, 7, 0x2B, 0xB0, 0x54, 0, 0, 0, 0, 0},
+     0,
+     33,
+     {0x32, 31, 0x91, 0xA1, 28, 2, 1, 3, OPERATION(3), 0x30, 14, 0x80, 1, 0xFF, 0x81, 6, 0x83, 0x13, 0x55, 0x05, 0x21, 0x03, 0x82, 1, 0xFF}},
+    /* what follows the record is not looked at */
+    {14, {0, 1, RECORD_HEAD(7), 4, 0, 0, 9, 9, 9}, 0, 10, {0x32, 8, 0x91, 0xA4, 5, 5, 0, 0x80, 1, 0}},
+    {0, {0}, 5, NO_MORE, {0}},
+    {2, {1, 0}, 5, NO_MORE, {0}},
+    {10, {1, 0, 7, 0, 3, 0, MESSAGE_KIND, CAUSE, 3, 5}, 5, NO_MORE, {0}},
+    {6, {1, 0, 2, 0, 9, 0}, 7, NO_MORE, {0}},
+    {6, {1, 0, 2, 0, 5, 0}, REV_BAD_FIELD, NO_MORE, {0}},                   /* another kind of record */
+    {11, {1, 0, RECORD_HEAD(7), 3, 13, 0}, REV_BAD_FIELD, NO_MORE, {0}},    /* no error of the module */
+    {11, {0, 1, RECORD_HEAD(7), 3, 5, 0}, REV_BAD_FIELD, NO_MORE, {0}},     /* no identifier */
+    {11, {1, 0, RECORD_HEAD(7), 0, 0, 0}, REV_BAD_FIELD, NO_MORE, {0}},     /* no component */
+    {15, {1, 0, RECORD_HEAD(11), 2, 3, 64, 0, 0x10, 0x0E, 0}, REV_BAD_FIELD, NO_MORE, {0}}, /* 921,600 s */
+};
+
+typedef uint32_t carry(const uint8_t *given, size_t given_len, uint8_t *out, size_t out_len);
+
+static uint32_t read_parameter(const uint8_t *given, size_t given_len, uint8_t *out, size_t out_len)
+{
+    return rev_read_parameter(given, given_len, MESSAGE_KIND, CAUSE, out, out_len);
+}
+
+static size_t parameters;
+
+static int carries(carry *function, const struct carried *c, const uint8_t *given, size_t room)
+{
+    size_t end = GUARD + room + GUARD, text = c->refusal == 0 && c->wanted_len <= room ? c->wanted_len : 0;
+    uint32_t want = c->refusal != 0 ? c->refusal : text == 0 ? REV_TOO_LONG : 256 * (uint32_t)text;
+
+    parameters++;
+    for (size_t i = 0; i < end; i++)
+        guarded[i] = filler(i);
+    for (int twice = 0; twice < 2; twice++)
+        if (function(given, c->given_len, guarded + GUARD, room) != want || memcmp(guarded + GUARD, c->wanted, text) != 0 ||
+            !stays(0, GUARD) || !stays(GUARD + text, end))
+            return 0;
+    return 1;
+}
+
+static const uint8_t *lend(uint8_t *pages, const uint8_t *bytes, size_t length);
+
+static int parameters_keep(uint8_t *pages)
+{
+    size_t count = sizeof read_parameters / sizeof read_parameters[0], more = sizeof written_parameters / sizeof written_parameters[0];
+
+    for (size_t i = 0; i < count + more; i++) {
+        const struct carried *c = i < count ? &read_parameters[i] : &written_parameters[i - count];
+        const uint8_t *given = lend(pages, c->given, c->given_len);
+
+        for (size_t room = 0; room <= sizeof c->wanted; room++)
+            if (!carries(i < count ? read_parameter : rev_write_parameter, c, given, room)) {
+                printf("a parameter (%zu) in a buffer of %zu bytes is not as promised\n", i, room);
+                return 0;
+            }
+    }
+    /* message and cause are judged last of all but the room */
+    if (rev_read_parameter(read_parameters[1].given, read_parameters[1].given_len, 6, 0, guarded, 0) != REV_BAD_FIELD ||
+        rev_read_parameter(read_parameters[1].given, read_parameters[1].given_len, 5, 128, guarded, 0) != REV_BAD_FIELD ||
+        rev_read_parameter(read_parameters[3].given, read_parameters[3].given_len, 6, 0, guarded, 0) != REV_CUT_SHORT) {
+        printf("message and cause are not judged as promised\n");
+        return 0;
+    }
+    return 1;
+}
+
 static void stop(const char *what)
 {
     perror(what);
@@ -404,7 +519,7 @@ int main(int argc, char **argv)
     if (!kept("a file of no bytes", lend(pages, bytes, 0), 0) ||
         !kept("a file too long by a byte", lend(pages, bytes, sizeof bytes), sizeof bytes))
         return 1;
-    if (!writers_keep() || !numbers_read_back() || !same_numbers_are_told())
+    if (!writers_keep() || !numbers_read_back() || !same_numbers_are_told() || !parameters_keep(pages))
         return 1;
     snprintf(version, sizeof version, "REV %d\n", REV_VERSION);
     rev_listing(bytes, 0, whole, ROOM);
@@ -412,6 +527,7 @@ int main(int argc, char **argv)
         printf("the first line of a listing is not %s", version);
         return 1;
     }
-    printf("%d files and %d events, %zu buffers, %zu pairs of numbers, each as promised\n", argc - 1, EVENTS, buffers, pairs);
+    printf("%d files and %d events, %zu buffers, %zu pairs of numbers, %zu rooms for parameters, each as promised\n", argc - 1, EVENTS,
+           buffers, pairs, parameters);
     return 0;
 }

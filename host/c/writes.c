@@ -11,9 +11,6 @@
  */
 #include "rev.h"
 
-#include <stdio.h>
-#include <string.h>
-
 #ifdef PLAIN
 #include "plain.h"
 #define WRITE(kind) plain_write_##kind
@@ -21,17 +18,14 @@
 #define WRITE(kind) rev_write_##kind
 #endif
 
-enum { ROOM = 256, GUARD = 64, TEXT = 4096, KINDS = 6, FIELDS = 29 };
+#define SERVED_ROOM 256
+#include "served.h"
+
+enum { TEXT = 4096, KINDS = 6, FIELDS = 29 };
 
 static const size_t fields_length[1 + KINDS] = {0, 12, 11, FIELDS, 2, 0, 4};
 
-static uint8_t guarded[GUARD + ROOM + GUARD], text[TEXT];
-static uint8_t *const out = guarded + GUARD;
-
-static uint32_t four_bytes(const uint8_t *at)
-{
-    return at[0] | (uint32_t)at[1] << 8 | (uint32_t)at[2] << 16 | (uint32_t)at[3] << 24;
-}
+static uint8_t text[TEXT];
 
 static uint64_t eight_bytes(const uint8_t *at)
 {
@@ -59,26 +53,6 @@ static uint32_t write_event(unsigned kind, const uint8_t *at, size_t room)
     }
 }
 
-/* A byte for each place outside the buffer, different from those around it. */
-static uint8_t filler(size_t i)
-{
-    return (uint8_t)(i * 37 + 11);
-}
-
-static void fill(size_t from, size_t to)
-{
-    for (size_t i = from; i < to; i++)
-        guarded[i] = filler(i);
-}
-
-static int stays(size_t from, size_t to)
-{
-    for (size_t i = from; i < to; i++)
-        if (guarded[i] != filler(i))
-            return 0;
-    return 1;
-}
-
 /* The length of the dump of the record that stands in the buffer. A length that it claims past the room is left to be found there. */
 static size_t dump(size_t room)
 {
@@ -88,35 +62,15 @@ static size_t dump(size_t room)
     return dumped == REV_TOO_LONG ? 0 : dumped;
 }
 
-static int put(const uint8_t *bytes, size_t length)
-{
-    return fwrite(bytes, 1, length, stdout) == length;
-}
-
-static int put_four(uint32_t value)
-{
-    uint8_t bytes[4] = {value & 0xFF, value >> 8 & 0xFF, value >> 16 & 0xFF, value >> 24};
-
-    return put(bytes, sizeof bytes);
-}
-
-static int get(uint8_t *bytes, size_t length)
-{
-    return fread(bytes, 1, length, stdin) == length;
-}
-
 int main(void)
 {
-    uint8_t kind, fields[FIELDS], head[4];
+    uint8_t kind, fields[FIELDS];
 
     while (get(&kind, 1)) {
         size_t room, dumped;
         uint32_t given;
 
-        if (kind < 1 || kind > KINDS || !get(fields, fields_length[kind]) || !get(head, sizeof head))
-            return 2;
-        room = four_bytes(head);
-        if (room > ROOM || !get(out, room))
+        if (kind < 1 || kind > KINDS || !get(fields, fields_length[kind]) || !get_bytes(out, SERVED_ROOM, &room))
             return 2;
         fill(0, GUARD);
         fill(GUARD + room, sizeof guarded);

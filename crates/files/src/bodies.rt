@@ -17,7 +17,7 @@ use rows::Nature;
 use rows::Number;
 
 // The count byte's two halves. Its top bit is read here alone, and written in write.rt alone.
-fn nature_of(byte: u8) -> Nature
+pub fn nature_of(byte: u8) -> Nature
     ensures { λ r. ⌜ r ≡ natureOf byte ⌝ }
 {
     if byte < 128 {
@@ -26,7 +26,7 @@ fn nature_of(byte: u8) -> Nature
     Nature::International
 }
 
-fn count_of(byte: u8) -> u8
+pub fn count_of(byte: u8) -> u8
     ensures { λ r. ⌜ r ≡ countOf byte ⌝ }
 {
     byte % 128
@@ -67,7 +67,7 @@ fn ask_at(s: &[u8], b: usize) -> Event
     Event::Ask(item, called)
 }
 
-pub(crate) fn component_of(code: u8, n: u8) -> Component
+pub fn component_of(code: u8, n: u8) -> Component
     ensures { λ r. ⌜ r ≡ componentOf code n ⌝ }
 {
     if code == 0 {

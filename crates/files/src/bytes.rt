@@ -47,7 +47,7 @@ fn eight(s: &[u8], i: usize) -> u64
     wider(four(s, i)) + 4294967296 * wider(four(s, i + 4))
 }
 
-pub(crate) fn le2(s: &[u8], i: usize) -> u32
+pub fn le2(s: &[u8], i: usize) -> u32
     requires { ⌜ i + 1 < 2 ^ 64 ⌝ }
     ensures { λ r. ⌜ (r ≡ leAt 2 (now (s .entry)) i) × (r < 65536) ⌝ }
 {

@@ -32,7 +32,7 @@ fn put_1(out: &mut [u8], at: usize, v: u8) -> usize
     at + 1
 }
 
-fn put_2(out: &mut [u8], at: usize, v: u64) -> usize
+pub fn put_2(out: &mut [u8], at: usize, v: u64) -> usize
     requires { ⌜ at + 2 ≤ length (now out) ⌝ }
     ensures { λ r. ⌜ Put (now (out .entry)) at (leOf 2 v) (now (out .exit)) r ⌝ }
     ensures { λ r. ⌜ r ≡ at + 2 ⌝ }
@@ -63,7 +63,7 @@ fn put_8(out: &mut [u8], at: usize, v: u64) -> usize
 // ---- Fields
 
 // The count byte. Of a count in range nothing is cut off.
-fn count_byte(nature: Nature, count: u8) -> u8
+pub fn count_byte(nature: Nature, count: u8) -> u8
     ensures { λ r. ⌜ r ≡ countByte nature count % 256 ⌝ }
 {
     match nature {
@@ -120,7 +120,7 @@ fn put_carried(out: &mut [u8], at: usize, m: Message) -> usize
     put_duration_if(out, to, parts / 64 % 2, m.duration)
 }
 
-fn code_of(component: Component) -> u8
+pub fn code_of(component: Component) -> u8
     ensures { λ r. ⌜ r ≡ codeOf component ⌝ }
 {
     match component {
@@ -133,7 +133,7 @@ fn code_of(component: Component) -> u8
     }
 }
 
-fn item_of(component: Component) -> u8
+pub fn item_of(component: Component) -> u8
     ensures { λ r. ⌜ r ≡ itemOf component ⌝ }
 {
     match component {
@@ -194,13 +194,13 @@ fn put_front(out: &mut [u8], at: usize, m: Message) -> usize
 }
 
 // How many bytes its record has, with the two of its length.
-fn message_size(parts: u8) -> usize
+pub fn message_size(parts: u8) -> usize
     ensures { λ r. ⌜ r ≡ 2 + lengthOf 3 parts ⌝ }
 {
     2 + length_of(3, parts as u32) as usize
 }
 
-fn put_message(out: &mut [u8], m: Message) -> usize
+pub fn put_message(out: &mut [u8], m: Message) -> usize
     requires { ⌜ 2 + lengthOf 3 (m .parts) ≤ length (now out) ⌝ }
     ensures { λ r. ⌜ Put (now (out .entry)) 0 (recordOf (Received m)) (now (out .exit)) r ⌝ }
 {

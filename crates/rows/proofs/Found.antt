@@ -169,7 +169,7 @@ by-4 as-a as-b as-c as-d p a b c d = by as-a (λ x. p x b c d) (λ x. by-3 as-b 
 
 -- ---- Every plan of a row
 
-abbrev plans : (g : Plan → Bool) (t : Terms) (x : Row) → Tried g (planOf x t)
+abbrev pub plans : (g : Plan → Bool) (t : Terms) (x : Row) → Tried g (planOf x t)
 plans g t NoRow = one
 plans g t Opened = one
 plans g t TimeInSetup = one

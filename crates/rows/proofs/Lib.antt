@@ -16,6 +16,7 @@ pub mod Requests
 pub mod Reversal
 pub mod Running
 pub mod SameNumbers
+pub mod Sent
 pub mod Stays
 pub mod Theorems
 pub mod Totals

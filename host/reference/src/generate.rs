@@ -1,10 +1,12 @@
 //! Event files from a seed. Most are histories that are steered by the model: the next record is mostly one that
 //! matters in the state the call is in. The rest are damaged, long, empty or noise.
 
+mod elements;
 mod fields;
 pub mod lent;
 mod random;
 mod wanted;
+pub mod wires;
 
 use crate::listing;
 use crate::model::events::{self, DAY, LONGEST_FILE};

@@ -6,7 +6,10 @@ mod generate;
 mod listing;
 mod model;
 mod server;
+mod tally;
 mod undump;
+mod wire;
+mod wires;
 mod write;
 mod writes;
 
@@ -20,6 +23,9 @@ const USAGE: &str = "usage:
                                                  compares COMMAND's listings of N files with the model's
   reference writes --count N --seed S [--keep PATH] -- COMMAND ARGS..
                                                  compares what COMMAND writes of N events with the model's
+  reference wires --count N --seed S [--keep PATH] -- COMMAND ARGS..
+                                                 compares how COMMAND reads and writes N parameters with the model
+  reference wire C|P OCTETS.. | W ROOM WORDS..   the answer to a component or a parameter, as tests/wire.txt has them
   reference coverage --count N --seed S          how often N files reach each row, number and nature
   reference undump FILE < DUMP                   whether a dump is FILE's: it is read back
   reference generate --count N --seed S --out DIR
@@ -70,6 +76,16 @@ fn run(words: &[String]) -> Result<bool, Trouble> {
             let (options, command) = comparison(rest)?;
             let keep = options.text("--keep").unwrap_or("difference.txt");
             writes::compare(options.number("--count")?, options.number("--seed")?, keep, command)
+        }
+        "wires" => {
+            let (options, command) = comparison(rest)?;
+            let keep = options.text("--keep").unwrap_or("difference.txt");
+            wires::compare(options.number("--count")?, options.number("--seed")?, keep, command)
+        }
+        "wire" => {
+            let answer = wire::words::answer(&rest.join(" ")).ok_or(Trouble(USAGE.into()))?;
+            println!("{answer}");
+            Ok(true)
         }
         "coverage" => {
             let options = Options::read(rest, &["--count", "--seed"])?;
@@ -172,6 +188,9 @@ mod tests {
             "differential --count 1 --seed 1 --",
             "writes --count 1 --seed 1",
             "writes --count 1 -- true",
+            "wires --count 1 --seed 1",
+            "wire",
+            "wire C A1 0",
         ] {
             assert!(run(&words(bad)).is_err(), "{bad}");
         }

@@ -20,7 +20,7 @@ const LONGEST_DUMP: u32 = 4096;
 /// Compares `count` events. The first that differs is written to `keep`; gives whether there was none, and every class was reached.
 pub fn compare(count: u64, seed: u64, keep: &str, command: &[String]) -> Result<bool, Trouble> {
     let mut server = Server::start(command)?;
-    let mut classes = Classes::new();
+    let mut classes = Classes::all();
     for ordinal in 0..count {
         let (event, before) = lent(seed, ordinal);
         let expected = event.write(before.len());

@@ -122,7 +122,7 @@ fn wild(random: &mut Random) -> Event {
 }
 
 /// The bytes that are lent for a record of this size: none, too few, too few by one, just as many, or more.
-fn room(random: &mut Random, size: usize) -> usize {
+pub fn room(random: &mut Random, size: usize) -> usize {
     match random.below(10) {
         0 => 0,
         1 => random.below(size as u64) as usize,

@@ -1,7 +1,7 @@
 //! Counts how often each class of events and rooms was reached.
 
+use crate::tally::Tally;
 use crate::write::{part, Event, Message, Nature, Number, Refusal};
-use std::fmt::Write;
 
 /// An event, the room that it was lent, and what the model gave: the record's length or a refusal.
 pub struct Case {
@@ -86,19 +86,11 @@ const FIELDS: [(u8, &str); 16] = [
     (6, "seconds"),
 ];
 
-type Test = Box<dyn Fn(&Case) -> bool>;
-
-struct Class {
-    name: String,
-    holds: Test,
-    count: u64,
-}
-
-pub struct Classes(Vec<Class>);
+pub type Classes = Tally<Case>;
 
 impl Classes {
-    pub fn new() -> Classes {
-        let mut classes = Classes(Vec::new());
+    pub fn all() -> Classes {
+        let mut classes = Tally::new();
         classes.answers();
         classes.bad_fields();
         classes.values();
@@ -106,10 +98,6 @@ impl Classes {
         classes.natures();
         classes.unnamed();
         classes
-    }
-
-    fn add(&mut self, name: String, holds: impl Fn(&Case) -> bool + 'static) {
-        self.0.push(Class { name, holds: Box::new(holds), count: 0 });
     }
 
     /// Each kind with each number and each room; an expiry has no field that could be bad.
@@ -300,31 +288,6 @@ impl Classes {
             case.only_bad("duration") && case.message().is_some_and(|m| m.duration == 1)
         });
     }
-
-    pub fn count(&mut self, case: &Case) {
-        for class in &mut self.0 {
-            class.count += u64::from((class.holds)(case));
-        }
-    }
-
-    /// What was never reached.
-    pub fn missing(&self) -> Vec<&str> {
-        self.0.iter().filter(|class| class.count == 0).map(|class| class.name.as_str()).collect()
-    }
-
-    pub fn report(&self) -> String {
-        let mut text = String::new();
-        for class in &self.0 {
-            let _ = writeln!(text, "{}: {}", class.name, class.count);
-        }
-        let least = self.0.iter().min_by_key(|class| class.count).expect("there are classes");
-        let _ = writeln!(text, "least reached of {} classes: {}, {} times", self.0.len(), least.name, least.count);
-        let missing = self.missing();
-        if !missing.is_empty() {
-            let _ = writeln!(text, "not reached: {}", missing.join(", "));
-        }
-        text
-    }
 }
 
 /// A number, and nothing else, is out of its range.
@@ -338,7 +301,7 @@ mod tests {
     use crate::generate::lent::lent;
 
     fn classes_of(count: u64) -> Classes {
-        let mut classes = Classes::new();
+        let mut classes = Classes::all();
         for ordinal in 0..count {
             let (event, before) = lent(7, ordinal);
             let given = event.write(before.len()).map(|record| record.len());

@@ -1,21 +1,11 @@
 -- What was put into the array is the event's words, as far as it was put.
 -- Assumes nothing.
-use mathlib.Core.Path.{_≡_, sym, ap, _∙_}
-use mathlib.Core.List.{List}
-use Prim.Native.Nat.{ℕ, _≤_}
-use native.Mathlib.Nat.{zero-add}
-use native.Mathlib.Omega.{arith}
+use mathlib.Core.Path.{sym, _∙_}
 use borrow.Author.Needs.{needs}
-use lib.ListN.{length, take}
-use lib.Seq.{sets-eq, take-at, length-take-le}
-use Rattle.text.specs.Text.{Put}
+use lib.Seq.{length-take-le}
+use Rattle.text.proofs.Laws.{put-first}
 use Rattle.files.proofs.words.says.Statement.{statement}
 use Rattle.files.proofs.words.says.Tie as tie
-
-put-first : {old t new : List ℕ} {n : ℕ} → n ≤ length old → Put old 0 t new n → take n new ≡ t
-put-first {old} {t} {new} {n} h p =
-    let e : n ≡ length t = p .place ∙ zero-add (length t) in
-    ap (take n) (p .bytes ∙ sets-eq t old 0 (omega arith)) ∙ take-at t _ n (sym e)
 
 slice-aggregate-begins-line : tie.Need-slice-aggregate-begins-line
 slice-aggregate-begins-line c = sym (length-take-le _ _ (search needs))

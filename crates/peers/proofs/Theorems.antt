@@ -1,0 +1,59 @@
+-- THE THEOREMS about what two exchanges say to each other, each with its sentence, to be read alone. What they speak of is defined in
+-- specs/: Messages.antt (`receivedOf`, `sentOf`: a component as an event, what a row sends as a component) and Entries.antt (`entriesOf`,
+-- `readGives`, `writeGives`: what a host in C gets); in `wire`, Parameters.antt (`parameterOf`) and Texts.antt (`parameterText`,
+-- `writableOf`). Same.antt and Contracts.antt tie them to the contracts of the functions.
+-- Assumes nothing.
+use mathlib.Core.Bool.{true}
+use mathlib.Core.List.{List, [], _∷_}
+use mathlib.Core.Logic.{_↔_}
+use mathlib.Core.Path.{_≡_}
+use Prim.Native.Nat.{ℕ, _≤_, _<_}
+use Rattle.rows.specs.History.{run}
+use Rattle.rows.specs.Step.{unopenedCall, stepOf, messageOf}
+use Rattle.rows.specs.Valid.{numberThere, eventOk}
+use Rattle.rows.specs.declared.Call.{Call}
+use Rattle.rows.specs.declared.Event.{Event}
+use Rattle.rows.specs.declared.Event.the-variants.{Received}
+use Rattle.rows.specs.declared.Note.{Note}
+use Rattle.wire.specs.Grammar.{componentOf}
+use Rattle.wire.specs.Parameters.{holds, parameterOf}
+use Rattle.wire.specs.Texts.{parameterText, writableOf}
+use Rattle.wire.specs.declared.Answer.{Answer}
+use Rattle.wire.specs.declared.Component.{Component}
+use Rattle.wire.proofs.Fits.{read-fits}
+use Rattle.wire.proofs.Theorems.{parameter-reads-back}
+use Rattle.peers.specs.Entries.{carrierOk}
+use Rattle.peers.specs.Messages.{receivedOf, sentOf}
+use Rattle.peers.proofs.Backs
+use Rattle.peers.proofs.Backs.{isCoded}
+use Rattle.peers.proofs.Ranges.{fits-ranged}
+use Rattle.peers.proofs.Sendings
+use Rattle.peers.proofs.Sendings.{isThere}
+
+-- What a row sends can be written, with any identifier of a byte, exactly if its Duration is at most 921,599 seconds (255:59:59): so a
+-- Duration is all that can make it 3. The call has an own number, as every one has from its opening on ..
+pub sent-written : (c : Call) (e : Event) (i : ℕ) → numberThere (c .side .own) ≡ true → i < 256 →
+    isThere (stepOf c e .note .component) ≡ true → (writableOf (sentOf (stepOf c e .note) i) ≡ 1) ↔ (stepOf c e .note .duration ≤ 921599)
+sent-written = Sendings.sent-fits
+
+-- .. so it holds after any list of events from before the opening.
+pub sent-written-once-opened : (es : List Event) (e : Event) (i : ℕ) → i < 256 →
+    isThere (stepOf (run unopenedCall es) e .note .component) ≡ true →
+    (writableOf (sentOf (stepOf (run unopenedCall es) e .note) i) ≡ 1) ↔ (stepOf (run unopenedCall es) e .note .duration ≤ 921599)
+sent-written-once-opened = Sendings.sent-fits-once-opened
+
+-- What is written of it reads back as that one component ..
+pub sent-read : (n : Note) (i : ℕ) → writableOf (sentOf n i) ≡ 1 → parameterOf (parameterText (sentOf n i)) ≡ holds (sentOf n i ∷ [])
+sent-read n i e = parameter-reads-back (sentOf n i) (Backs.sized n i) e
+
+-- .. and that is the event of the message which the note says: component, parts, numbers and Duration as they are. (isCoded: the component
+-- is one of 01's codes 0 to 4. A number in range has a count below 128.)
+pub sent-received : (message cause i : ℕ) (n : Note) → isCoded (n .component) ≡ true → n .calling .count < 128 → n .called .count < 128 →
+    receivedOf message cause (sentOf n i) ≡ Received (messageOf message cause n)
+sent-received = Backs.received-back
+
+-- No component that is read off the wire is out of range: of its event 3 can be said for the message's kind and cause alone.
+pub read-in-range : (s : List ℕ) (at next message cause : ℕ) (c : Component) → componentOf s at ≡ Answer.Read c next →
+    eventOk (receivedOf message cause c) ≡ carrierOk message cause
+unfolding receivedOf
+read-in-range s at next message cause c e = fits-ranged message cause c (read-fits s at next c e)

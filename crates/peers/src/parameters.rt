@@ -1,0 +1,125 @@
+// For a host in C: a parameter as entries of events, and an entry as a parameter. Number + 256 * rest is given back; where the number is
+// not 0 nothing was written.
+ghost use mathlib.Core.Path.{_≡_};
+ghost use Prim.Native.Nat.{_≤_};
+ghost use lib.Dec.{eqb};
+ghost use lib.ListN.{length};
+ghost use Rattle.files.specs.Bytes.{leAt};
+ghost use Rattle.rows.specs.declared.Event.the-variants.{Received};
+ghost use Rattle.wire.specs.Parameters.{walkOf, parameterOf};
+ghost use Rattle.wire.specs.Texts.{parameterText, writableOf};
+ghost use Rattle.peers.specs.Entries.{givesOf, leavesOf, readGives, readLeaves, identifierAt, recordAt};
+ghost use Rattle.peers.specs.Entries.{sendable, sentText, writeGives, writeLeaves};
+use crate::entries::BAD_FIELD;
+use crate::entries::with_rest;
+use crate::entries::write_one;
+use crate::entries::write_several;
+use crate::messages::carried;
+use crate::messages::none;
+use files::Read;
+use rows::Event;
+use rows::Message;
+use wire::Answer;
+use wire::Component;
+use wire::Frame;
+use wire::Written;
+
+const CUT_SHORT: u32 = 5;
+
+// ---- from a parameter to entries
+
+// The components of a parameter whose own bytes are good. There is mostly one.
+fn read_components(parameter: &[u8], message: u8, cause: u8, out: &mut [u8]) -> u32
+    requires { ⌜ (3 ≤ length (now parameter)) × (length (now parameter) ≤ 257) ⌝ }
+    ensures { λ r. ⌜ (r ≡ readGives message cause (walkOf (now (parameter .entry)) 3) (now (out .entry)))
+        × (now (out .exit) ≡ readLeaves message cause (walkOf (now (parameter .entry)) 3) (now (out .entry))) ⌝ }
+{
+    if parameter.len() == 3 {
+        return write_one(message, cause, none(), out);
+    }
+    let a = wire::read_component(parameter, 3);
+    match a {
+        Answer::Refused(n, place) => with_rest(n, place),
+        Answer::Read(c, next) => {
+            if parameter.len() <= next {
+                return write_one(message, cause, c, out);
+            }
+            write_several(parameter, message, cause, c, next, out)
+        }
+    }
+}
+
+// The events of a parameter, in a message of this kind and cause: an entry for each component; one with component 0 where it has none.
+#[no_mangle]
+pub extern "C" fn rev_read_parameter(
+    parameter: &[u8],
+    message: u8,
+    cause: u8,
+    out: &mut [u8],
+) -> u32
+    ensures { λ r. ⌜ (r ≡ readGives message cause (parameterOf (now (parameter .entry))) (now (out .entry)))
+        × (now (out .exit) ≡ readLeaves message cause (parameterOf (now (parameter .entry))) (now (out .entry))) ⌝ }
+{
+    let f = wire::framed(parameter);
+    match f {
+        Frame::Bad(n, place) => with_rest(n, place),
+        Frame::Good => read_components(parameter, message, cause, out),
+    }
+}
+
+// ---- from an entry to a parameter
+
+fn identifier(entry: &[u8]) -> u16
+    ensures { λ r. ⌜ r ≡ identifierAt (now (entry .entry)) ⌝ }
+{
+    files::le2(entry, 0) as u16
+}
+
+fn write_component(c: Component, out: &mut [u8]) -> u32
+    ensures { λ r. ⌜ (r ≡ givesOf (eqb (writableOf c) 1) (parameterText c) (now (out .entry)))
+        × (now (out .exit) ≡ leavesOf (eqb (writableOf c) 1) (parameterText c) (now (out .entry))) ⌝ }
+{
+    let w = wire::write_parameter(c, out);
+    match w {
+        Written::Done(n) => with_rest(0, n),
+        Written::Refused(n) => with_rest(n, 0),
+    }
+}
+
+fn write_message(m: Message, id: u16, out: &mut [u8]) -> u32
+    ensures { λ r. ⌜ (r ≡ givesOf (sendable (Received m) id) (sentText (Received m) id) (now (out .entry)))
+        × (now (out .exit) ≡ leavesOf (sendable (Received m) id) (sentText (Received m) id) (now (out .entry))) ⌝ }
+{
+    if rows::message_ok(m) {
+        return write_component(carried(m, id), out);
+    }
+    BAD_FIELD
+}
+
+fn write_event(e: Event, id: u16, out: &mut [u8]) -> u32
+    ensures { λ r. ⌜ (r ≡ givesOf (sendable e id) (sentText e id) (now (out .entry)))
+        × (now (out .exit) ≡ leavesOf (sendable e id) (sentText e id) (now (out .entry))) ⌝ }
+{
+    match e {
+        Event::Opening(_, _, _) => BAD_FIELD,
+        Event::Ask(_, _) => BAD_FIELD,
+        Event::Received(m) => write_message(m, id, out),
+        Event::FromAccess(_, _) => BAD_FIELD,
+        Event::Expiry => BAD_FIELD,
+        Event::Time(_) => BAD_FIELD,
+    }
+}
+
+// The parameter of an entry, which is an identifier and a record of kind 3. What follows the record is not looked at.
+#[no_mangle]
+pub extern "C" fn rev_write_parameter(entry: &[u8], out: &mut [u8]) -> u32
+    ensures { λ r. ⌜ (r ≡ writeGives (recordAt (now (entry .entry))) (identifierAt (now (entry .entry))) (now (out .entry)))
+        × (now (out .exit) ≡ writeLeaves (recordAt (now (entry .entry))) (identifierAt (now (entry .entry))) (now (out .entry))) ⌝ }
+{
+    let f = files::read_at(entry, 2);
+    match f {
+        Read::End => CUT_SHORT,
+        Read::Stop(n) => with_rest(n, 0),
+        Read::Got(e, _) => write_event(e, identifier(entry), out),
+    }
+}

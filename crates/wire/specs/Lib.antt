@@ -1,0 +1,9 @@
+pub mod Bytes
+pub mod Cursors
+pub mod Elements
+pub mod Grammar
+pub mod Heads
+pub mod Parameters
+pub mod Quick
+pub mod Texts
+pub mod Values

@@ -1,0 +1,4 @@
+pub mod Octets
+pub mod Texts
+pub mod Told
+pub mod Values
