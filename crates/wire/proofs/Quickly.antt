@@ -6,22 +6,24 @@ use Prim.Native.Nat.{ℕ, zero, suc, _+_, _-_, _%_, _^_, _≤_, _<_}
 use native.Mathlib.Nat.{add-zero}
 use native.Mathlib.Omega.{arith}
 use lib.ListN.{length}
-use Rattle.text.proofs.Cases.{yes-lt, no-lt, yes-eq, no-eq, both-eq}
+use Rattle.text.proofs.Cases.{yes-lt, no-lt, yes-eq, no-eq, both-lt, both-eq}
 use Rattle.wire.specs.Bytes.{byteAt}
+use Rattle.wire.specs.Heads.{headOf}
 use Rattle.wire.specs.Cursors.{absentOf, openedOf, insideOf, needOf, closedOf, checkedOf}
 use Rattle.wire.specs.Values.{listedAt, absentNumber, partyOf, thereOf, clockAt, secondsAt}
 use Rattle.wire.specs.Grammar.{any, codeOf, flagPart, partsOf, madeOf, bareOf, invokeOf, resultOf, errorOf}
-use Rattle.wire.specs.Quick.{beginsOf, afterOf, numberAfter, numberAt, lastAfter, lastPart, lastSeconds, lastOk, numberOk, codedAt, carriedOf, Said-as, Read-as}
+use Rattle.wire.specs.Quick.{beginsOf, shortOf, afterOf, numberAfter, numberAt, lastAfter, lastPart, lastSeconds, lastOk, numberOk, codedAt, carriedOf, Said-as, Read-as}
 use Rattle.wire.specs.declared.Answer.{Answer}
 use Rattle.wire.specs.declared.Component.{Component}
 use Rattle.wire.specs.declared.Cursor.{Cursor}
+use Rattle.wire.specs.declared.Head.{Head}
 use Rattle.wire.specs.declared.Number.{Number}
 use Rattle.wire.specs.declared.Parted.{Parted}
 use Rattle.wire.specs.declared.Form.{Form}
 use Rattle.wire.specs.declared.Said.{Said}
-use Rattle.wire.proofs.Back.{Holds, Ready, ready-opened, ready-absent, inside-opened, need-there, may-other, closed-there}
+use Rattle.wire.proofs.Back.{Holds, head-here, Ready, ready-opened, ready-absent, inside-opened, need-there, may-other, closed-there}
 use Rattle.wire.proofs.Round.{good-opened, answer-read, invoke-by, result-by, error-by}
-use Rattle.wire.proofs.Usual.{Begins, begins}
+use Rattle.wire.proofs.Usual.{Begins, begins, bytes-of}
 
 -- ---- begins, after
 
@@ -72,6 +74,60 @@ module _ (s : List ℕ) (i tag size : ℕ) where
     pub after-not : (b ≡ 1 → ⊥) → i ≡ afterOf s i tag size
     unfolding afterOf
     after-not h = no-eq _ _ _ _ _ (λ z. h (e ∙ z)) refl
+
+-- ---- the head of a component
+
+module _ (s : List ℕ) (at tag : ℕ) (e : tag ≡ byteAt s at) where
+  pub short-far : tag % 32 ≡ 31 → 128 ≡ shortOf s at
+  unfolding shortOf
+  short-far h = yes-eq _ _ _ _ _ (omega arith) refl
+
+  module _ (h : tag % 32 ≡ 31 → ⊥) (b size : ℕ) (f : b ≡ byteAt s (at + 1)) (g : size ≡ b) where
+    near : byteAt s at % 32 ≡ 31 → ⊥
+    near z = h (omega arith)
+
+    pub short-long : 127 < size → 128 ≡ shortOf s at
+    unfolding shortOf
+    short-long k = no-eq _ _ _ _ _ near (yes-lt _ _ _ _ _ (omega arith) refl)
+
+    module _ (k : size ≤ 127) (x : ℕ) (d : x ≡ beginsOf s at tag size) where
+      same : beginsOf s at (byteAt s at) (byteAt s (at + 1)) ≡ x
+      same = ap (λ (z : ℕ). beginsOf s at z (byteAt s (at + 1))) (sym e) ∙ ap (beginsOf s at tag) (sym (g ∙ f)) ∙ sym d
+
+      pub short-here : x ≡ 1 → size ≡ shortOf s at
+      unfolding shortOf
+      short-here o = no-eq _ _ _ _ _ near (no-lt _ _ _ _ _ (omega arith) (yes-eq _ _ _ _ _ (same ∙ o) (g ∙ f)))
+
+      pub short-none : (x ≡ 1 → ⊥) → 128 ≡ shortOf s at
+      unfolding shortOf
+      short-none o = no-eq _ _ _ _ _ near (no-lt _ _ _ _ _ (omega arith) (no-eq _ _ _ _ _ (λ z. o (sym same ∙ z)) refl))
+
+record Short (s : List ℕ) (at n : ℕ) : Type 0 where
+  pub plain : byteAt s at % 32 ≡ 31 → ⊥
+  pub stands : Begins s at (byteAt s at) n
+
+short-as : (s : List ℕ) (at n : ℕ) → n < 128 → n ≡ shortOf s at → Short s at n
+unfolding shortOf
+short-as s at n h =
+    both-eq _ _ (λ (z : ℕ). n ≡ z → Short s at n) _ _ (λ _ f. absurd (omega arith)) λ k.
+    both-lt _ _ (λ (z : ℕ). n ≡ z → Short s at n) _ _ (λ _ f. absurd (omega arith)) λ _.
+    both-eq _ _ (λ (z : ℕ). n ≡ z → Short s at n) _ _
+    (λ g f. record { plain = k; stands = subst (Begins s at (byteAt s at)) (sym f) (begins s at (byteAt s at) (byteAt s (at + 1)) g) })
+    (λ _ f. absurd (omega arith))
+
+module _ (s : List ℕ) (at n : ℕ) (e : n ≡ shortOf s at) (h : n < 128) where
+  pub short-fits : length s < 2 ^ 64 → at + 2 + n < 2 ^ 64
+  short-fits l = let t = short-as s at n h e .stands .there in omega arith
+
+  pub short-near : length s < 2 ^ 64 → at + 2 < 2 ^ 64
+  short-near l = let t = short-as s at n h e .stands .there in omega arith
+
+  pub opening-here : (tag : ℕ) → tag ≡ byteAt s at → Head.Open tag (at + 2) (at + 2 + n) ≡ headOf s at (length s) 11
+  opening-here tag f =
+      let k = short-as s at n h e in
+      let t = k .stands .there in
+      ap (λ (z : ℕ). Head.Open z (at + 2) (at + 2 + n)) f
+      ∙ head-here s at (length s) 11 (byteAt s at) n [] (bytes-of s at (byteAt s at) n (k .stands)) (k .plain) h (omega arith)
 
 -- ---- numbers
 

@@ -51,7 +51,7 @@ two-bytes s i a b e f zero h = ap (byteAt s) (add-zero i) ∙ e
 two-bytes s i a b e f (suc zero) h = f
 two-bytes s i a b e f (suc (suc j)) h = absurd (omega arith)
 
-bytes-of : (s : List ℕ) (i tag size : ℕ) → Begins s i tag size → Holds s i (tag ∷ size ∷ [])
+pub bytes-of : (s : List ℕ) (i tag size : ℕ) → Begins s i tag size → Holds s i (tag ∷ size ∷ [])
 bytes-of s i tag size b = two-bytes s i tag size (b .tag-is) (b .size-is)
 
 flag-same : (a c b off on : ℕ) → (a ≡ 0 → ⊥) → (c ≡ 0 → ⊥) → flagPart a b off on ≡ flagPart c b off on

@@ -3,7 +3,7 @@
 -- Assumes nothing.
 use mathlib.Core.Path.{_≡_}
 use mathlib.Core.List.{List}
-use Prim.Native.Nat.{ℕ, _+_, _-_}
+use Prim.Native.Nat.{ℕ, _+_, _-_, _%_}
 use lib.ListN.{length}
 use Rattle.text.specs.Choose.{ifLt, ifEq}
 use Rattle.wire.specs.Bytes.{byteAt}
@@ -20,6 +20,13 @@ use Rattle.wire.specs.declared.Said.{Said}
 -- 1 where an element of this tag and size stands at i, all of it
 unfoldable pub beginsOf : List ℕ → ℕ → ℕ → ℕ → ℕ
 beginsOf s i tag size = ifLt (length s) (i + (size + 2)) 0 (ifEq (byteAt s i) tag (ifEq (byteAt s (i + 1)) size 1 0) 0)
+
+-- the length of an element whose tag and length have a byte each, all of it there; 128 where none is
+unfoldable pub shortOf : List ℕ → ℕ → ℕ
+shortOf s at =
+    ifEq (byteAt s at % 32) 31 128
+    (ifLt 127 (byteAt s (at + 1)) 128
+    (ifEq (beginsOf s at (byteAt s at) (byteAt s (at + 1))) 1 (byteAt s (at + 1)) 128))
 
 -- the place after it; i where it does not stand there
 unfoldable pub afterOf : List ℕ → ℕ → ℕ → ℕ → ℕ

@@ -22,7 +22,6 @@ use crate::cursors::may;
 use crate::cursors::need;
 use crate::cursors::rest;
 use crate::elements::NOT_OURS;
-use crate::heads::head;
 use crate::quick;
 use crate::values::ABSENT;
 use crate::values::clock;
@@ -31,8 +30,6 @@ use crate::values::party;
 use crate::values::problem_tag;
 use crate::values::seconds;
 use crate::values::there;
-
-pub const CUT_SHORT: u8 = 11;
 
 const ANY: usize = 18446744073709551615;
 
@@ -377,7 +374,7 @@ fn by_kind(s: &[u8], place: usize, tag: u8, at: usize) -> Answer
 pub fn read_component(s: &[u8], at: usize) -> Answer
     ensures { λ out. ⌜ out ≡ componentOf (now (s .entry)) at ⌝ }
 {
-    let h = head(s, at, s.len(), CUT_SHORT);
+    let h = quick::opening(s, at);
     match h {
         Head::Bad(n) => Answer::Refused(n, at),
         Head::Open(tag, inner, next) => by_kind(&s[..next], at, tag, inner),

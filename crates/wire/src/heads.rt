@@ -8,6 +8,8 @@ use crate::bytes::big;
 use crate::bytes::byte;
 use crate::bytes::wide;
 
+pub const CUT_SHORT: u8 = 11;
+
 pub const BAD_LENGTH: u8 = 12;
 
 // The place after a tag number: its last byte is the first below 128.

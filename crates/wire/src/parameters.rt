@@ -8,7 +8,7 @@ use crate::Component;
 use crate::Frame;
 use crate::Whole;
 use crate::bytes::wide;
-use crate::components::CUT_SHORT;
+use crate::heads::CUT_SHORT;
 use crate::components::read_component;
 use crate::elements::NOT_OURS;
 use crate::heads::BAD_LENGTH;

@@ -4,15 +4,19 @@ ghost use mathlib.Core.Path.{_≡_};
 ghost use Prim.Native.Nat.{_+_, _≤_, _<_, _^_};
 ghost use lib.ListN.{length};
 ghost use Rattle.wire.specs.Cursors.{absentOf};
-ghost use Rattle.wire.specs.Grammar.{partsOf, invokeOf, resultOf, errorOf};
-ghost use Rattle.wire.specs.Quick.{beginsOf, afterOf, numberAfter, numberAt, lastAfter, lastPart, lastSeconds, lastOk, numberOk, saidOf, codedAt, carriedOf, Said-as, Read-as};
+ghost use Rattle.wire.specs.Heads.{headOf};
+ghost use Rattle.wire.specs.Grammar.{cutShort, partsOf, invokeOf, resultOf, errorOf};
+ghost use Rattle.wire.specs.Quick.{beginsOf, shortOf, afterOf, numberAfter, numberAt, lastAfter, lastPart, lastSeconds, lastOk, numberOk, saidOf, codedAt, carriedOf, Said-as, Read-as};
 use crate::Form;
+use crate::Head;
 use crate::Number;
 use crate::Parted;
 use crate::Said;
+use crate::bytes::byte;
 use crate::bytes::byte_past;
 use crate::bytes::minus;
 use crate::bytes::wide;
+use crate::heads::CUT_SHORT;
 use crate::components::bare;
 use crate::components::first_part;
 use crate::components::flag_part;
@@ -20,6 +24,7 @@ use crate::components::made;
 use crate::components::party_part;
 use crate::components::wide16;
 use crate::cursors::absent;
+use crate::heads::head;
 use crate::values::ABSENT;
 use crate::values::clock;
 use crate::values::listed;
@@ -48,6 +53,35 @@ fn begins(s: &[u8], i: usize, tag: u8, size: usize) -> u8
         return 0;
     }
     0
+}
+
+// The length of an element whose tag and length have a byte each; 128 where not all of one stands there.
+fn short(s: &[u8], at: usize) -> usize
+    ensures { λ r. ⌜ r ≡ shortOf (now (s .entry)) at ⌝ }
+{
+    let tag = byte(s, at);
+    if tag % 32 == 31 {
+        return 128;
+    }
+    let size = wide(byte_past(s, at, 1));
+    if 127 < size {
+        return 128;
+    }
+    if begins(s, at, tag, size) == 1 {
+        return size;
+    }
+    128
+}
+
+// The head of the component at a place.
+pub fn opening(s: &[u8], at: usize) -> Head
+    ensures { λ r. ⌜ r ≡ headOf (now (s .entry)) at (length (now (s .entry))) cutShort ⌝ }
+{
+    let size = short(s, at);
+    if size < 128 {
+        return Head::Open(byte(s, at), at + 2, at + 2 + size);
+    }
+    head(s, at, s.len(), CUT_SHORT)
 }
 
 // The place after it; its own where it does not stand there.

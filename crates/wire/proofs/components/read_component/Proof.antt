@@ -5,8 +5,8 @@ use borrow.Author.Needs.{needs}
 use Rattle.wire.proofs.components.read_component.Statement.{statement}
 use Rattle.wire.proofs.components.read_component.Tie as tie
 
-head-requires : tie.Need-head-requires
-head-requires c κs = search needs
+opening-requires : tie.Need-opening-requires
+opening-requires c κs = search needs
 
 enum-known-h : tie.Need-enum-known-h
 enum-known-h c = search needs
@@ -30,7 +30,7 @@ pub read-component-spec : {M : Type 1} → statement M
 read-component-spec =
     tie.close
     (tie.spec
-    head-requires
+    opening-requires
     enum-known-h
     enum-known-h-2
     slice-aggregate-by-kind
