@@ -6,11 +6,11 @@ use mathlib.Core.List.{List, [], _∷_, _++_, append-nil}
 use Prim.Native.Nat.{ℕ, zero, suc, _+_, _-_, _*_, _^_, _≤_, _<_}
 use native.Mathlib.Nat.{zero-add}
 use native.Mathlib.Omega.{arith}
-use lib.ListN.{length, take, drop, set, length-drop}
-use lib.Seq.{sets, sets-eq, take-all}
+use lib.ListN.{length, take, drop, set, length-append, length-drop}
+use lib.Seq.{sets, sets-eq, length-sets, take-all}
 use Rattle.text.specs.Text.{Put}
-use Rattle.text.proofs.Cases.{yes-so, no-so, yes-lt, no-lt}
-use Rattle.text.proofs.Laws.{put-after, put-length, put-first, put-as}
+use Rattle.text.proofs.Cases.{yes-so, no-so, both-so, yes-lt, no-lt, both-lt}
+use Rattle.text.proofs.Laws.{put-after, put-before, put-length, put-as}
 use Rattle.files.specs.Bodies.{recordOf}
 use Rattle.files.specs.Bytes.{leOf, part}
 use Rattle.files.specs.Frames.{lengthOf}
@@ -24,15 +24,14 @@ use Rattle.wire.specs.Grammar.{componentOf}
 use Rattle.wire.specs.Parameters.{Parameter, refused, holds, before, onward, walkOf}
 use Rattle.wire.specs.declared.Answer.{Answer}
 use Rattle.wire.specs.declared.Component.{Component}
-use Rattle.wire.proofs.Fits.{read-fits, FitsAll, FitsHeld}
+use Rattle.wire.proofs.Fits.{FitsAll, FitsHeld}
 use Rattle.wire.proofs.Places.{Placed, component-placed}
-use Rattle.wire.proofs.Theorems.{written-is-shortest}
 use Rattle.wire.proofs.Walks.{read-on, walk-end, walk-on}
 use Rattle.peers.specs.Entries.{withRest, givesOf, leavesOf, entryOf, orNone, entriesOf, carrierOk, rangedOf, readGives, readLeaves}
-use Rattle.peers.specs.Entries.{Keeps, KeptWithin}
+use Rattle.peers.specs.Entries.{endedOf, keptOf, Keeps, KeptWithin}
 use Rattle.peers.specs.Messages.{heardOf, receivedOf}
 use Rattle.peers.specs.declared.Kept.{Kept}
-use Rattle.peers.proofs.Ranges.{fits-ranged, fits-short}
+use Rattle.peers.proofs.Ranges.{fits-ranged}
 
 -- ---- sizes
 
@@ -185,162 +184,188 @@ module _ (message cause : ℕ) (c : Component) (out : List ℕ) (f : Carried mes
         reads-all message cause c [] out r new
         (gives-whole _ _ out n (sym ranged-one ∙ h) one-length r at new l q (put-as entries-one p))
 
--- ---- several: their entries, one after the other
+-- ---- several: the entries of those that follow one are put before its own
 
--- what stands before those that follow
-keeps-before : (message cause : ℕ) (c : Component) (p : Parameter) (old new : List ℕ) (from to : ℕ) (k : Kept) (last : List ℕ)
-    → Put old from (entryOf (c .id) (receivedOf message cause c)) new to → Keeps message cause p new to k last
-    → Keeps message cause (before c p) old from k last
-unfolding before entriesOf
-keeps-before message cause c (refused n place) old new from to k last q e = e
-keeps-before message cause c (holds cs) old new from to k last q (e, f) =
-    let z = put-after (record { bytes = f; place = refl }) q in
-    (e ∙ ap Kept.All (z .place), z .bytes)
+abbrev asRest : Kept → ℕ
+asRest (Kept.Refused n rest) = withRest n rest
+asRest (Kept.All to) = withRest 0 to
 
-pub record Keeping (s : List ℕ) (message cause at : ℕ) (old : List ℕ) (from place : ℕ) (new : List ℕ) (to : ℕ) : Type 0 where
-  pub near : place ≤ length s
-  pub same : length new ≡ length old
-  pub room : to + 2 * (length s - place) ≤ length new
-  -- whatever is kept from here on, all is
-  pub onto : (k : Kept) (last : List ℕ) → Keeps message cause (walkOf s place) new to k last → Keeps message cause (walkOf s at) old from k last
+abbrev isAll : Kept → ℕ
+isAll (Kept.Refused n rest) = 0
+isAll (Kept.All to) = 1
 
-pub keeping-start : (s : List ℕ) (message cause at : ℕ) (old : List ℕ) (from : ℕ) → at ≤ length s
-    → from + 2 * (length s - at) ≤ length old → Keeping s message cause at old from at old from
-keeping-start s message cause at old from h g = record { near = h; same = refl; room = g; onto = λ k last e. e }
+kept-differ : (n rest to : ℕ) → Kept.Refused n rest ≡ Kept.All to → ⊥
+kept-differ n rest to e = let z : _≡_ {A = ℕ} 0 1 = ap isAll e in omega arith
 
-module _ (s : List ℕ) (message cause at : ℕ) (old : List ℕ) (from place : ℕ) (new : List ℕ) (to : ℕ)
-    (t : Keeping s message cause at old from place new to) where
-  pub keeping-length : length new ≡ length old
-  keeping-length = t .same
+kept-nothing : (k : Kept) (old : List ℕ) (from : ℕ) → old ≡ keptOf k old from []
+unfolding keptOf
+kept-nothing (Kept.Refused n rest) old from = refl
+kept-nothing (Kept.All to) old from = refl
 
-  pub keeping-done : length s ≤ place
-      → Keeps message cause (walkOf s at) old from (Kept.All to) new × KeptWithin (length s) (length old) (Kept.All to)
+kept-length : (k : Kept) (old : List ℕ) (from : ℕ) (t : List ℕ) → length (keptOf k old from t) ≡ length old
+unfolding keptOf
+kept-length (Kept.Refused n rest) old from t = refl
+kept-length (Kept.All to) old from t = length-sets old from t
+
+keeps-length : (message cause : ℕ) (p : Parameter) (old : List ℕ) (from : ℕ) (k : Kept) (new : List ℕ) → Keeps message cause p old from k new
+    → length new ≡ length old
+unfolding Keeps
+keeps-length message cause (refused n place) old from k new (_, e) = ap length e
+keeps-length message cause (holds cs) old from k new (_, e) = ap length e ∙ kept-length k old from (entriesOf message cause cs)
+
+module _ (ok b : Bool) (room to : ℕ) (e : b ≡ ok) where
+  pub ended-bad : b ≡ false → Kept.Refused 3 0 ≡ endedOf ok room to
+  unfolding endedOf
+  ended-bad h = no-so _ _ _ _ (sym e ∙ h) refl
+
+  module _ (h : b ≡ true) where
+    pub ended-full : room < to → Kept.Refused 8 0 ≡ endedOf ok room to
+    unfolding endedOf
+    ended-full g = yes-so _ _ _ _ (sym e ∙ h) (yes-lt _ _ _ _ _ g refl)
+
+    pub ended-good : to ≤ room → Kept.All to ≡ endedOf ok room to
+    unfolding endedOf
+    ended-good g = yes-so _ _ _ _ (sym e ∙ h) (no-lt _ _ _ _ _ g refl)
+
+-- where the entries end they have room
+ended-all : (ok : Bool) (room to end : ℕ) → Kept.All end ≡ endedOf ok room to → to ≤ room
+unfolding endedOf
+ended-all ok room to end =
+    both-so ok (λ (z : Kept). Kept.All end ≡ z → to ≤ room) _ _
+    (λ _. both-lt room to (λ (z : Kept). Kept.All end ≡ z → to ≤ room) _ _ (λ _ e. absurd (kept-differ _ _ _ (sym e))) (λ h _. h))
+    (λ _ e. absurd (kept-differ _ _ _ (sym e)))
+
+ended-within : (ok : Bool) (room to : ℕ) → to ≤ 8481 → KeptWithin (endedOf ok room to)
+unfolding endedOf KeptWithin
+ended-within ok room to h =
+    both-so ok KeptWithin _ _ (λ _. both-lt room to KeptWithin _ _ (λ _. omega arith) (λ _. h)) (λ _. omega arith)
+
+-- an entry before those of p, which begin where it ends
+module _ (message cause : ℕ) (c : Component) (p : Parameter) (old new : List ℕ) (to from : ℕ) (k : Kept) (m : Message) (g : m ≡ heardOf message cause c)
+    (z : from ≡ to + (2 + length (recordOf (Received m)))) (w : Keeps message cause p old from k new) where
+  own : entryOf (c .id) (Received m) ≡ entryOf (c .id) (receivedOf message cause c)
+  unfolding receivedOf
+  own = ap (λ (x : Message). entryOf (c .id) (Received x)) g
+
+  begin : from ≡ to + length (entryOf (c .id) (receivedOf message cause c))
+  begin = z ∙ ap (λ (n : ℕ). to + n) (sym (entry-length (c .id) (Received m)) ∙ ap length own)
+
+  end-same : (cs : List Component) → from + length (entriesOf message cause cs) ≡ to + length (entriesOf message cause (c ∷ cs))
   unfolding entriesOf
-  keeping-done h =
-      let e : to ≡ to + 0 = omega arith in
-      let x = t .room in
-      let y = t .same in (
-        t .onto (Kept.All to) new (subst (λ (p : Parameter). Keeps message cause p new to (Kept.All to) new) (sym (walk-end s place h)) (ap Kept.All e, refl)),
-        omega arith,
+  end-same cs =
+      let l = length-append (entryOf (c .id) (receivedOf message cause c)) (entriesOf message cause cs) in
+      omega (arith, begin)
+
+  pub before-refused : (n rest : ℕ) → k ≡ Kept.Refused n rest → Keeps message cause (before c p) old to (Kept.Refused n rest) new
+  unfolding before keptOf Keeps
+  before-refused n rest f = by p w
+    where
+      by : (q : Parameter) → Keeps message cause q old from k new → Keeps message cause (before c q) old to (Kept.Refused n rest) new
+      by (refused x place) (e, d) = (sym f ∙ e, d)
+      by (holds cs) (e, d) =
+          (sym f ∙ e ∙ ap (endedOf (carrierOk message cause) (length old)) (end-same cs), d ∙ ap (λ (x : Kept). keptOf x old from (entriesOf message cause cs)) f)
+
+  pub before-room : (end : ℕ) → k ≡ Kept.All end → to + (2 + length (recordOf (Received m))) ≤ length new
+  unfolding Keeps
+  before-room end f = by p w
+    where
+      by : (q : Parameter) → Keeps message cause q old from k new → to + (2 + length (recordOf (Received m))) ≤ length new
+      by (refused x place) (e, d) = absurd (kept-differ _ _ _ (sym e ∙ f))
+      by (holds cs) (e, d) =
+          let r = ended-all _ _ _ _ (sym f ∙ e) in
+          let l = keeps-length message cause (holds cs) old from k new (e, d) in
+          omega arith
+
+  pub before-all : (end after : ℕ) (last : List ℕ) → k ≡ Kept.All end → Put new to (entryOf (c .id) (Received m)) last after
+      → Keeps message cause (before c p) old to (Kept.All end) last
+  unfolding before keptOf entriesOf Keeps
+  before-all end after last f q = by p w
+    where
+      by : (x : Parameter) → Keeps message cause x old from k new → Keeps message cause (before c x) old to (Kept.All end) last
+      by (refused n place) (e, d) = absurd (kept-differ _ _ _ (sym e ∙ f))
+      by (holds cs) (e, d) =
+          let b : Put old from (entriesOf message cause cs) new (from + length (entriesOf message cause cs)) =
+          record { bytes = d ∙ ap (λ (x : Kept). keptOf x old from (entriesOf message cause cs)) f; place = refl } in
+          (sym f ∙ e ∙ ap (endedOf (carrierOk message cause) (length old)) (end-same cs), put-before begin (put-as own q) b .bytes)
+
+-- the components of s from a place on
+module _ (s : List ℕ) (at message cause : ℕ) (old : List ℕ) (to : ℕ) where
+  pub keep-end : (k : Kept) → length s ≤ at → at ≤ length s → length s ≤ 257 → to ≤ 33 * at → k ≡ endedOf (carrierOk message cause) (length old) to
+      → Keeps message cause (walkOf s at) old to k old × KeptWithin k
+  unfolding entriesOf Keeps
+  keep-end k h near few little e =
+      let z : to ≡ to + 0 = omega arith in (
+        subst (λ (p : Parameter). Keeps message cause p old to k old) (sym (walk-end s at h))
+            (e ∙ ap (endedOf (carrierOk message cause) (length old)) z, kept-nothing k old to),
+        subst KeptWithin (sym e) (ended-within (carrierOk message cause) (length old) to (omega arith)),
       )
 
-  module _ (a : Answer) (h : place < length s) (e : a ≡ componentOf s place) where
-    on : walkOf s place ≡ onward a (walkOf s)
-    on = walk-on s place h ∙ ap (λ (x : Answer). onward x (walkOf s)) (sym e)
+  module _ (a : Answer) (h : at < length s) (e : a ≡ componentOf s at) where
+    on : walkOf s at ≡ onward a (walkOf s)
+    on = walk-on s at h ∙ ap (λ (x : Answer). onward x (walkOf s)) (sym e)
 
     placed : Placed (length s) a
-    placed = subst (Placed (length s)) (sym e) (component-placed s place (omega arith))
+    placed = subst (Placed (length s)) (sym e) (component-placed s at (omega arith))
 
-    pub keeping-refused : (n met : ℕ) → a ≡ Answer.Refused n met
-        → Keeps message cause (walkOf s at) old from (Kept.Refused n met) new × KeptWithin (length s) (length old) (Kept.Refused n met)
-    unfolding onward
-    keeping-refused n met f =
-        let w : walkOf s place ≡ refused n met = on ∙ ap (λ (x : Answer). onward x (walkOf s)) f in (
-          t .onto (Kept.Refused n met) new (subst (λ (p : Parameter). Keeps message cause p new to (Kept.Refused n met) new) (sym w) refl),
-          subst (Placed (length s)) f placed,
+    pub keep-refused : (n place : ℕ) → length s ≤ 257 → a ≡ Answer.Refused n place
+        → Keeps message cause (walkOf s at) old to (Kept.Refused n place) old × KeptWithin (Kept.Refused n place)
+    unfolding onward Keeps KeptWithin
+    keep-refused n place few f =
+        let l : place ≤ length s = subst (Placed (length s)) f placed in (
+          subst (λ (p : Parameter). Keeps message cause p old to (Kept.Refused n place) old) (sym (on ∙ ap (λ (x : Answer). onward x (walkOf s)) f)) (refl, refl),
+          omega arith,
         )
 
     module _ (c : Component) (next : ℕ) (f : a ≡ Answer.Read c next) where
-      reads : componentOf s place ≡ Answer.Read c next
-      reads = sym e ∙ f
+      pub keep-near : next ≤ length s
+      keep-near = subst (Placed (length s)) f placed
 
-      pub keeping-less : length s - next < length s - place
-      keeping-less = let o = read-on s place next c a e f in omega arith
+      pub keep-on : at < next
+      keep-on = let o = read-on s at next c a e f in omega arith
 
-      module _ (m : Message) (g : m ≡ heardOf message cause c) where
-        -- twice the bytes that the component took
-        small : 2 + length (recordOf (Received m)) ≤ 2 * (next - place)
-        small =
-            let k = fits-short message cause c (read-fits s place next c reads) in
-            let w = written-is-shortest s place next c reads in
-            let z : length (recordOf (Received m)) ≡ length (recordOf (Received (heardOf message cause c))) =
-            ap (λ (x : Message). length (recordOf (Received x))) g in
-            omega arith
+      step : before c (walkOf s next) ≡ walkOf s at
+      unfolding onward
+      step = sym (on ∙ ap (λ (x : Answer). onward x (walkOf s)) f)
 
-        pub keeping-room : to + (2 + length (recordOf (Received m))) ≤ length new
-        keeping-room = let x = t .room in let y = small in let z : next ≤ length s = subst (Placed (length s)) f placed in omega arith
+      pub keep-before : (k : Kept) (last : List ℕ) → Keeps message cause (before c (walkOf s next)) old to k last → Keeps message cause (walkOf s at) old to k last
+      keep-before k last w = subst (λ (p : Parameter). Keeps message cause p old to k last) step w
 
-        pub keeping-on : (newer : List ℕ) (further : ℕ) → Put new to (entryOf (c .id) (Received m)) newer further
-            → Keeping s message cause at old from next newer further
-        unfolding onward receivedOf
-        keeping-on newer further p =
-            let z : next ≤ length s = subst (Placed (length s)) f placed in
-            let o = read-on s place next c a e f in
-            let x = t .room in
-            let y = small in
-            let l = put-length p in
-            let q = p .place in
-            let u = entry-length (c .id) (Received m) in
-            let v = t .same in
-            let w : walkOf s place ≡ before c (walkOf s next) = on ∙ ap (λ (b : Answer). onward b (walkOf s)) f in
-            record {
-              near = z;
-              same = l ∙ v;
-              room = omega arith;
-              onto =
-                  λ k last d. t .onto k last
-                  (subst (λ (b : Parameter). Keeps message cause b new to k last) (sym w)
-                  (keeps-before message cause c (walkOf s next) new newer to further k last
-                  (put-as (ap (λ (b : Message). entryOf (c .id) (Received b)) g) p) d));
-            }
+pub within-as : (k x : Kept) → k ≡ x → KeptWithin k → KeptWithin x
+within-as k x e w = subst KeptWithin e w
+
+pub small-refused : (k : Kept) (n rest : ℕ) → KeptWithin k → k ≡ Kept.Refused n rest → rest < 2 ^ 23
+unfolding KeptWithin
+small-refused k n rest w e = let z : rest ≤ 257 = subst KeptWithin e w in omega arith
+
+pub small-all : (k : Kept) (to : ℕ) → KeptWithin k → k ≡ Kept.All to → to < 2 ^ 23
+unfolding KeptWithin
+small-all k to w e = let z : to ≤ 8481 = subst KeptWithin e w in omega arith
 
 -- ---- and all of them given
 
-abbrev asRest : Kept → ℕ
-asRest (Kept.Refused n place) = withRest n place
-asRest (Kept.All to) = 0
+ended-gave : (ok : Bool) (t old new : List ℕ) (k : Kept) (r : ℕ) → r ≡ asRest k → new ≡ keptOf k old 0 t → k ≡ endedOf ok (length old) (length t)
+    → Gave ok t old r new
+unfolding endedOf keptOf
+ended-gave ok t old new k r g d =
+    both-so ok (λ (z : Kept). k ≡ z → Gave ok t old r new) _ _
+    (λ h. both-lt (length old) (length t) (λ (z : Kept). k ≡ z → Gave ok t old r new) _ _
+    (λ l f. like _ _ (g ∙ ap asRest f) (d ∙ left f) (gives-full ok t old (length t) h refl l))
+    (λ l f. gives-whole ok t old (length t) h refl r (0 + length t) new l (g ∙ ap asRest f) (record { bytes = d ∙ left f; place = refl })))
+    (λ h f. like _ _ (g ∙ ap asRest f) (d ∙ left f) (gives-bad ok t old h))
+  where
+    like : (x : ℕ) (y : List ℕ) → r ≡ x → new ≡ y → Gave ok t old x y → Gave ok t old r new
+    like x y a b (u, v) = (a ∙ u, b ∙ v)
 
-abbrev asPlace : Kept → ℕ
-asPlace (Kept.Refused n place) = 0
-asPlace (Kept.All to) = to
+    left : {z : Kept} → k ≡ z → keptOf k old 0 t ≡ keptOf z old 0 t
+    left f = ap (λ (x : Kept). keptOf x old 0 t) f
 
-abbrev isAll : Kept → ℕ
-isAll (Kept.Refused n place) = 0
-isAll (Kept.All to) = 1
-
-kept-differ : (n place to : ℕ) → Kept.Refused n place ≡ Kept.All to → ⊥
-kept-differ n place to e = let z : _≡_ {A = ℕ} 0 1 = ap isAll e in omega arith
-
--- the refusal's place, and where the entries end
-module _ (k : Kept) (most room : ℕ) (w : KeptWithin most room k) where
-  pub within-small : (n place : ℕ) → k ≡ Kept.Refused n place → most ≤ 257 → place < 2 ^ 23
-  within-small n place e h = let z : place ≤ most = subst (KeptWithin most room) e w in omega arith
-
-  pub within-room : (n : ℕ) → k ≡ Kept.All n → n ≤ room
-  within-room n e = subst (KeptWithin most room) e w
-
--- room for the first, and then for the others
-module _ (m : Message) where
-  pub entry-few : 2 + length (recordOf (Received m)) ≤ 33
-  entry-few = let e = entry-sized m (2 + lengthOf 3 (m .parts)) refl in let f = entry-most (m .parts) (2 + lengthOf 3 (m .parts)) refl in omega arith
-
-  pub others-room : (old new s : List ℕ) (id to next : ℕ) → length s ≤ 257 → Put old 0 (entryOf id (Received m)) new to → 576 ≤ length new
-      → to + 2 * (length s - next) ≤ length new
-  others-room old new s id to next h p k =
-      let e = p .place in
-      let f = entry-length id (Received m) in
-      let g = entry-few in
-      omega arith
-
-module _ (message cause : ℕ) (out : List ℕ) (c : Component) where
-  pub kept-refused : (p : Parameter) (old : List ℕ) (from : ℕ) (k : Kept) (last : List ℕ) (n place r : ℕ)
-      → Keeps message cause p old from k last → k ≡ Kept.Refused n place → r ≡ withRest n place → Reads message cause (before c p) out r out
-  unfolding before readGives readLeaves
-  kept-refused (refused m met) old from k last n place r e f g = (g ∙ ap asRest (sym f ∙ e), refl)
-  kept-refused (holds cs) old from k last n place r (e, _) f g = absurd (kept-differ _ _ _ (sym f ∙ e))
-
-  pub kept-given : (m : Message) (p : Parameter) (zeros old last : List ℕ) (from : ℕ) (k : Kept) (n r : ℕ) (new : List ℕ)
-      → m ≡ heardOf message cause c → Carried message cause c → FitsHeld p → Put zeros 0 (entryOf (c .id) (Received m)) old from
-      → Keeps message cause p old from k last → k ≡ Kept.All n → n ≤ length last → Gave (carrierOk message cause) (take n last) out r new
-      → Reads message cause (before c p) out r new
-  unfolding before entriesOf receivedOf
-  kept-given m (refused x met) zeros old last from k n r new i f fs q e d l g = absurd (kept-differ _ _ _ (sym e ∙ d))
-  kept-given m (holds cs) zeros old last from k n r new i f fs q (e, b) d l g =
-      let z = put-after (record { bytes = b; place = refl }) q in
-      let w : n ≡ from + length (entriesOf message cause cs) = ap asPlace (sym d ∙ e) in
-      let u : take n last ≡ entriesOf message cause (c ∷ cs) =
-      put-first (omega (arith, put-length z, l)) (record { bytes = z .bytes; place = w ∙ z .place })
-      ∙ ap (λ (x : Message). entryOf (c .id) (Received x) ++ entriesOf message cause cs) i in
-      reads-all message cause c cs out r new
-      (subst (λ (x : List ℕ). Gave (rangedOf message cause (c ∷ cs)) x out r new) u
-      (subst (λ (x : Bool). Gave x (take n last) out r new) (sym (ranged-all message cause c cs f (all-carried message cause cs fs))) g))
+pub several-given : (message cause : ℕ) (c : Component) (p : Parameter) (old new : List ℕ) (k : Kept) (r : ℕ) → Carried message cause c → FitsHeld p
+    → Keeps message cause (before c p) old 0 k new → r ≡ asRest k → Reads message cause (before c p) old r new
+unfolding before readGives readLeaves Keeps
+several-given message cause c (refused n place) old new k r f fs (e, d) g = (g ∙ ap asRest e, d)
+several-given message cause c (holds cs) old new k r f fs (e, d) g =
+    let ok = carrierOk message cause in
+    let t = entriesOf message cause (c ∷ cs) in
+    reads-all message cause c cs old r new
+    (subst (λ (x : Bool). Gave x t old r new) (sym (ranged-all message cause c cs f (all-carried message cause cs fs)))
+    (ended-gave ok t old new k r g d (e ∙ ap (endedOf ok (length old)) (zero-add (length t)))))

@@ -26,7 +26,7 @@ use Rattle.wire.specs.declared.Frame.{Frame}
 use Rattle.wire.specs.declared.Written.{Written}
 use Rattle.wire.proofs.Fits.{read-fits}
 use Rattle.wire.proofs.Places.{Placed, component-placed, parameter-most}
-use Rattle.wire.proofs.Walks.{walk-end, walk-on, good-walk, bad-refused}
+use Rattle.wire.proofs.Walks.{read-on, walk-end, walk-on, good-walk, bad-refused}
 use Rattle.peers.specs.Entries.{withRest, givesOf, leavesOf, orNone, readGives, readLeaves}
 use Rattle.peers.specs.Entries.{sendable, sentText, writeGives, writeLeaves}
 use Rattle.peers.specs.Messages.{noComponent, carriedOf, sentOf}
@@ -80,6 +80,9 @@ module _ (s : List ℕ) (message cause : ℕ) (out : List ℕ) where
     module _ (c : Component) (next : ℕ) (f : a ≡ Answer.Read c next) where
       pub first-carried : Carried message cause c
       first-carried = fits-ranged message cause c (read-fits s 3 next c (sym e ∙ f))
+
+      pub first-some : 1 ≤ next
+      first-some = let o = read-on s 3 next c a e f in omega arith
 
       first-on : walkOf s 3 ≡ before c (walkOf s next)
       unfolding onward

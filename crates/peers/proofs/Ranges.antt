@@ -1,32 +1,23 @@
--- What fits on the wire is in range as an event, where the message that carries it is; and its entry is not long.
+-- What fits on the wire is in range as an event, where the message that carries it is.
 -- Assumes nothing.
 use mathlib.Core.Bool.{Bool, true, false, _&&_, _||_, not}
-use mathlib.Core.List.{List, [], _∷_}
 use mathlib.Core.Path.{_≡_, refl, ap, _∙_}
 use Prim.Native.Nat.{ℕ, zero, suc, _+_, _*_, _/_, _%_, _^_, _≤_, _<_}
 use native.Mathlib.Omega.{arith}
 use borrow.Author.Tests.{lt-ltb, le-leb, eq-eqb}
 use lib.Dec.{ltb, leb, eqb}
-use lib.ListN.{length}
 use Rattle.text.specs.Choose.{ifSo, ifLt, ifEq}
-use Rattle.text.proofs.Cases.{both-eq}
-use Rattle.files.specs.Bodies.{natureOf, countOf, componentOf, recordOf}
-use Rattle.files.specs.Bytes.{part}
-use Rattle.files.specs.Frames.{lengthOf}
-use Rattle.files.proofs.BothWays.{record-length}
-use Rattle.files.proofs.Puts.{message-length, message-sized}
+use Rattle.files.specs.Bodies.{natureOf, countOf, componentOf}
 use Rattle.rows.specs.Telephone.{national}
 use Rattle.rows.specs.Valid.{pickℕ, numberThere, numberIf, componentOk, partsOk, messageOk}
-use Rattle.rows.specs.declared.Event.the-variants.{Received}
 use Rattle.rows.proofs.Truth.{both, or-true}
-use Rattle.wire.specs.Texts.{argumentOk, resultOk, partsText, idText, rejectedText, componentText}
+use Rattle.wire.specs.Texts.{argumentOk, resultOk}
 use Rattle.wire.specs.Values.{absentNumber}
 use Rattle.wire.specs.declared.Component.{Component}
 use Rattle.wire.specs.declared.Number.{Number as Party}
 use Rattle.wire.proofs.Digited.{Fine}
 use Rattle.wire.proofs.Fits.{Shaped, Fits}
 use Rattle.wire.proofs.Goods.{argument-inv, result-inv}
-use Rattle.wire.proofs.Pieces.{size-invoke, size-result, size-error, size-reject}
 use Rattle.peers.specs.Entries.{carrierOk}
 use Rattle.peers.specs.Messages.{numberOf, heardOf, noComponent}
 
@@ -132,48 +123,3 @@ fits-ranged message cause c f =
 pub none-ranged : (message cause : ℕ) → messageOk (heardOf message cause noComponent) ≡ carrierOk message cause
 unfolding heardOf carrierOk noComponent componentOf numberOf natureOf countOf ifEq ifLt ifSo
 none-ranged message cause = and-rest (leb 1 message && leb message 5) (leb cause 127) _ refl
-
--- ---- sizes
-
-heard-bytes : (message cause : ℕ) (c : Component)
-    → 2 + length (recordOf (Received (heardOf message cause c)))
-    ≡ 11 + 9 * part (c .parts) 16 + 9 * part (c .parts) 32 + 4 * part (c .parts) 64
-unfolding heardOf
-heard-bytes message cause c =
-    let e = record-length (Received (heardOf message cause c)) in
-    let f = message-sized (2 + lengthOf 3 (c .parts)) (c .parts) refl in
-    let g = message-length (c .parts) in
-    omega arith
-
--- an argument has no Duration
-argument-short : (n p : ℕ) → argumentOk n p ≡ 1 → p / 64 % 2 ≡ 0
-argument-short n p e = argument-inv (p / 64 % 2 ≡ 0) n p e (λ h k. omega arith) (λ h k. omega arith)
-
-rejected-some : (x : ℕ) → 2 ≤ length (rejectedText x)
-unfolding rejectedText idText
-rejected-some x = both-eq x 256 (λ (t : List ℕ). 2 ≤ length t) (5 ∷ 0 ∷ []) (idText x) (λ h. omega arith) (λ h. omega arith)
-
-shaped-short : (c : Component) → Shaped (c .kind) (c .item) (c .parts)
-    → 11 + 9 * part (c .parts) 16 + 9 * part (c .parts) 32 + 4 * part (c .parts) 64 ≤ 2 * length (componentText c)
-shaped-short c (Shaped.calls h a b e) =
-    let z = argument-short (c .item) (c .parts) e in
-    let w = size-invoke c (length (partsText c)) refl h in
-    omega arith
-shaped-short c (Shaped.answers h a b e) =
-    let w = size-result c (length (partsText c)) refl (λ g. omega arith) h in
-    omega arith
-shaped-short c (Shaped.fails h a b e) =
-    let w = size-error c (λ g. omega arith) (λ g. omega arith) h in
-    omega arith
-shaped-short c (Shaped.rejects h a e) =
-    let s = rejected-some (c .id) in
-    let w = size-reject c (length (rejectedText (c .id))) refl (λ g. omega arith) (λ g. omega arith) (λ g. omega arith) in
-    omega arith
-
--- Its entry has at most twice the bytes that it is written in.
-pub fits-short : (message cause : ℕ) (c : Component) → Fits c
-    → 2 + length (recordOf (Received (heardOf message cause c))) ≤ 2 * length (componentText c)
-fits-short message cause c f =
-    let e = heard-bytes message cause c in
-    let g = shaped-short c (f .shaped) in
-    omega arith

@@ -72,17 +72,25 @@ unfoldable pub readLeaves : ℕ → ℕ → Parameter → List ℕ → List ℕ
 readLeaves message cause (refused n place) out = out
 readLeaves message cause (holds cs) out = leavesOf (rangedOf message cause (orNone cs)) (entriesOf message cause (orNone cs)) out
 
--- While a parameter is read its entries are put one after the other, from a place of a buffer on: the place after them, and the buffer with
--- them in it; or the refusal, and then what the buffer holds is nobody's.
-abbrev pub Keeps : ℕ → ℕ → Parameter → List ℕ → ℕ → Kept → List ℕ → Type 0
-Keeps message cause (refused n place) old from k new = k ≡ Kept.Refused n place
-Keeps message cause (holds cs) old from k new =
-    (k ≡ Kept.All (from + length (entriesOf message cause cs))) × (new ≡ sets old from (entriesOf message cause cs))
+-- Entries that end at a place of a buffer with this room, where ok says whether they can be given: 3, then 8; else the place
+unfoldable pub endedOf : Bool → ℕ → ℕ → Kept
+endedOf ok room to = ifSo ok (ifLt room to (Kept.Refused noRoom 0) (Kept.All to)) (Kept.Refused badField 0)
 
--- its place in the parameter, and the place in the buffer
-abbrev pub KeptWithin : ℕ → ℕ → Kept → Type 0
-KeptWithin most room (Kept.Refused n place) = place ≤ most
-KeptWithin most room (Kept.All to) = to ≤ room
+unfoldable pub keptOf : Kept → List ℕ → ℕ → List ℕ → List ℕ
+keptOf (Kept.Refused n rest) old from t = old
+keptOf (Kept.All to) old from t = sets old from t
+
+-- what stands beside the number: 33 bytes an entry, 257 bytes of a parameter
+unfoldable pub KeptWithin : Kept → Type 0
+KeptWithin (Kept.Refused n rest) = rest ≤ 257
+KeptWithin (Kept.All to) = to ≤ 8481
+
+-- the entries of what a parameter holds, from a place of the buffer on: all of them in it, or all of it as it was
+unfoldable pub Keeps : ℕ → ℕ → Parameter → List ℕ → ℕ → Kept → List ℕ → Type 0
+Keeps message cause (refused n place) old from k new = (k ≡ Kept.Refused n place) × (new ≡ old)
+Keeps message cause (holds cs) old from k new =
+    (k ≡ endedOf (carrierOk message cause) (length old) (from + length (entriesOf message cause cs)))
+    × (new ≡ keptOf k old from (entriesOf message cause cs))
 
 -- ---- from an entry to a parameter
 

@@ -1,14 +1,14 @@
 // The entries of a parameter's components: an identifier, and the record of the event.
 ghost use mathlib.Core.Path.{_≡_};
 ghost use mathlib.Core.List.{_∷_, []};
-ghost use Prim.Native.Nat.{_+_, _-_, _*_, _≤_, _<_, _^_};
-ghost use lib.ListN.{length, take};
+ghost use Prim.Native.Nat.{_+_, _*_, _≤_, _<_, _^_};
+ghost use lib.ListN.{length};
 ghost use Rattle.text.specs.Text.{Put};
 ghost use Rattle.files.specs.Bodies.{recordOf};
 ghost use Rattle.rows.specs.declared.Event.the-variants.{Received};
 ghost use Rattle.rows.specs.Valid.{messageOk};
 ghost use Rattle.wire.specs.Parameters.{holds, before, walkOf};
-ghost use Rattle.peers.specs.Entries.{withRest, givesOf, leavesOf, entryOf, carrierOk, Keeps, KeptWithin, readGives, readLeaves};
+ghost use Rattle.peers.specs.Entries.{withRest, entryOf, carrierOk, endedOf, Keeps, KeptWithin, readGives, readLeaves};
 ghost use Rattle.peers.specs.Messages.{heardOf};
 use crate::Kept;
 use crate::messages::heard;
@@ -68,46 +68,46 @@ pub(crate) fn write_one(message: u8, cause: u8, c: Component, out: &mut [u8]) ->
     BAD_FIELD
 }
 
-// The entries of the components from a place on. An entry has at most twice the bytes of its component.
-fn keep(s: &[u8], at: usize, message: u8, cause: u8, kept: &mut [u8], from: usize) -> Kept
-    requires { ⌜ (at ≤ length (now s)) × (from + 2 * (length (now s) - at) ≤ length (now kept)) ⌝ }
-    ensures { λ r. ⌜ Keeps message cause (walkOf (now (s .entry)) at) (now (kept .entry)) from r (now (kept .exit))
-        × KeptWithin (length (now (s .entry))) (length (now (kept .entry))) r ⌝ }
+// Entries that end at a place, of which all are read.
+fn ended(message: u8, cause: u8, room: usize, to: usize) -> Kept
+    ensures { λ r. ⌜ r ≡ endedOf (carrierOk message cause) room to ⌝ }
 {
-    let mut place = at;
-    let mut to = from;
-    while place < s.len() {
-        let a = wire::read_component(s, place);
-        match a {
-            Answer::Refused(n, met) => return Kept::Refused(n, met),
-            Answer::Read(c, next) => {
-                let m = heard(message, cause, c);
-                to = put_entry(kept, to, c.id, m);
-                place = next;
+    if carrier_ok(message, cause) {
+        if room < to {
+            return Kept::Refused(8, 0);
+        }
+        return Kept::All(to);
+    }
+    Kept::Refused(3, 0)
+}
+
+// The entries of the components from a place on. Nothing may be written before all are read: each is put after those that follow it, so
+// that no room is needed but the stack's, for the 36 components at most that a parameter can have.
+fn keep(s: &[u8], at: usize, message: u8, cause: u8, out: &mut [u8], to: usize) -> Kept
+    requires { ⌜ (at ≤ length (now s)) × (length (now s) ≤ 257) × (to ≤ 33 * at) ⌝ }
+    ensures { λ r. ⌜ Keeps message cause (walkOf (now (s .entry)) at) (now (out .entry)) to r (now (out .exit)) × KeptWithin r ⌝ }
+{
+    if s.len() <= at {
+        return ended(message, cause, out.len(), to);
+    }
+    let a = wire::read_component(s, at);
+    match a {
+        Answer::Refused(n, place) => Kept::Refused(n, place),
+        Answer::Read(c, next) => {
+            let m = heard(message, cause, c);
+            let k = keep(s, next, message, cause, out, to + entry_size(m));
+            match k {
+                Kept::Refused(n, rest) => Kept::Refused(n, rest),
+                Kept::All(end) => {
+                    put_entry(out, to, c.id, m);
+                    Kept::All(end)
+                }
             }
         }
     }
-    Kept::All(to)
 }
 
-// The entries that were kept: the first n bytes.
-fn give(message: u8, cause: u8, kept: &[u8], n: usize, out: &mut [u8]) -> u32
-    requires { ⌜ (n ≤ length (now kept)) × (n < 2 ^ 23) ⌝ }
-    ensures { λ r. ⌜ (r ≡ givesOf (carrierOk message cause) (take n (now (kept .entry))) (now (out .entry)))
-        × (now (out .exit) ≡ leavesOf (carrierOk message cause) (take n (now (kept .entry))) (now (out .entry))) ⌝ }
-{
-    if carrier_ok(message, cause) {
-        if out.len() < n {
-            return NO_ROOM;
-        }
-        text::put_word(out, 0, &kept[..n]);
-        return with_rest(0, n);
-    }
-    BAD_FIELD
-}
-
-// Several, after the first. Nothing may be written before all are read, so their entries are put together first: 33 bytes at most of the
-// first, and of the others twice the bytes that a parameter has.
+// Several, after the first.
 pub(crate) fn write_several(
     s: &[u8],
     message: u8,
@@ -116,16 +116,17 @@ pub(crate) fn write_several(
     next: usize,
     out: &mut [u8],
 ) -> u32
-    requires { ⌜ (next ≤ length (now s)) × (length (now s) ≤ 257) × (messageOk (heardOf message cause c) ≡ carrierOk message cause) ⌝ }
+    requires { ⌜ (1 ≤ next) × (next ≤ length (now s)) × (length (now s) ≤ 257) × (messageOk (heardOf message cause c) ≡ carrierOk message cause) ⌝ }
     ensures { λ r. ⌜ (r ≡ readGives message cause (before c (walkOf (now (s .entry)) next)) (now (out .entry)))
         × (now (out .exit) ≡ readLeaves message cause (before c (walkOf (now (s .entry)) next)) (now (out .entry))) ⌝ }
 {
-    let mut kept = [0u8; 576];
     let m = heard(message, cause, c);
-    let to = put_entry(&mut kept, 0, c.id, m);
-    let k = keep(s, next, message, cause, &mut kept, to);
+    let k = keep(s, next, message, cause, out, entry_size(m));
     match k {
-        Kept::Refused(n, place) => with_rest(n, place),
-        Kept::All(n) => give(message, cause, &kept, n, out),
+        Kept::Refused(n, rest) => with_rest(n, rest),
+        Kept::All(end) => {
+            put_entry(out, 0, c.id, m);
+            with_rest(0, end)
+        }
     }
 }

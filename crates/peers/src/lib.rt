@@ -17,7 +17,7 @@ pub use messages::write_sent;
 pub use parameters::rev_read_parameter;
 pub use parameters::rev_write_parameter;
 
-// Entries put one after the other: the place after the last; or the refusal, with its place, of a component.
+// What became of entries: the place after the last; or a refusal, and its rest.
 pub enum Kept {
     Refused(u8, usize),
     All(usize),

@@ -8,10 +8,10 @@ use crate::Component;
 use crate::Frame;
 use crate::Whole;
 use crate::bytes::wide;
-use crate::heads::CUT_SHORT;
 use crate::components::read_component;
 use crate::elements::NOT_OURS;
 use crate::heads::BAD_LENGTH;
+use crate::heads::CUT_SHORT;
 
 // The components from a place on, after one.
 fn several(s: &[u8], at: usize) -> Whole

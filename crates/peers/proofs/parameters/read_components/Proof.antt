@@ -1,4 +1,4 @@
-use Rattle.peers.proofs.Hosted.{none-carried, read-none, first-small, first-refused, first-carried, first-alone, first-more}
+use Rattle.peers.proofs.Hosted.{none-carried, read-none, first-small, first-refused, first-carried, first-alone, first-more, first-some}
 use mathlib.Core.List.{[]}
 use native.Mathlib.Omega.{arith}
 use borrow.Author.Needs.{needs}
@@ -47,6 +47,8 @@ returns-2 c =
 
 write-several-requires : tie.Need-write-several-requires
 write-several-requires c κs = (
+  first-some _ 0 0 [] _ (c .before .before .before .before .before .read-component .ensures) (search needs) (search needs) _ _
+      (c .before .before .before .a2 .given .1),
   omega arith,
   search needs,
   first-carried _ _ _ [] _ (c .before .before .before .before .before .read-component .ensures) (search needs) (search needs) _ _
