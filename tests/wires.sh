@@ -8,16 +8,7 @@ cd "$(dirname "$0")/.."
 who=wires.sh count=100000 seed=1
 # shellcheck source=tests/generated.inc
 . tests/generated.inc
-if [ "$(uname -m)" = x86_64 ]; then compiler=cc; else compiler=clang; fi
-for tool in $compiler cargo; do
-    if ! command -v "$tool" >/dev/null; then
-        echo "wires: skipped, there is no $tool here"
-        exit 0
-    fi
-done
-sh host/c/build
-. host/kit.sh
-cargo build --quiet --release --offline --manifest-path host/reference/Cargo.toml --target-dir target/reference
+build_served
 build_x86_64 target/host/wires host/c/wires.c target/staticlib/librev.a
 build_x86_64 target/host/plain-wires -DPLAIN -Ibench host/c/wires.c bench/plain_wire.c
 # a stack of 64 KiB is enough for it, whatever it is lent

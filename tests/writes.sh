@@ -8,16 +8,7 @@ cd "$(dirname "$0")/.."
 who=writes.sh count=100000 seed=1
 # shellcheck source=tests/generated.inc
 . tests/generated.inc
-if [ "$(uname -m)" = x86_64 ]; then compiler=cc; else compiler=clang; fi
-for tool in $compiler cargo; do
-    if ! command -v "$tool" >/dev/null; then
-        echo "writes: skipped, there is no $tool here"
-        exit 0
-    fi
-done
-sh host/c/build
-. host/kit.sh
-cargo build --quiet --release --offline --manifest-path host/reference/Cargo.toml --target-dir target/reference
+build_served
 # the plain writers' records are read back by the library's dump, as the others are
 build_x86_64 target/host/plain-writes -DPLAIN -Ibench host/c/writes.c bench/plain.c target/staticlib/librev.a
 ask_served writes "the proved writers" target/host/writes
