@@ -12,7 +12,7 @@ use Rattle.text.specs.Text.{Put}
 use Rattle.text.proofs.Cases.{yes-so, no-so, both-so, yes-lt, no-lt, both-lt}
 use Rattle.text.proofs.Laws.{put-after, put-before, put-length, put-as}
 use Rattle.files.specs.Bodies.{recordOf}
-use Rattle.files.specs.Bytes.{leOf, part}
+use Rattle.files.specs.Bytes.{leOf}
 use Rattle.files.specs.Frames.{lengthOf}
 use Rattle.files.proofs.BothWays.{record-length}
 use Rattle.files.proofs.Puts.{message-length, message-sized}
@@ -184,7 +184,7 @@ module _ (message cause : ℕ) (c : Component) (out : List ℕ) (f : Carried mes
         reads-all message cause c [] out r new
         (gives-whole _ _ out n (sym ranged-one ∙ h) one-length r at new l q (put-as entries-one p))
 
--- ---- several: the entries of those that follow one are put before its own
+-- ---- several: the entry of one is put once those that follow it stand in the buffer
 
 abbrev asRest : Kept → ℕ
 asRest (Kept.Refused n rest) = withRest n rest

@@ -1,16 +1,17 @@
 -- Any two results that a contract of `peers` allows are the same: a law for each form that is not already in the Same.antt of `text`
--- (`same`: `heard`, `received`, `alone`, `carried`, `sent`; `put-same`: the functions that put an entry or all of them).
+-- (`same`: `heard`, `received`, `alone`, `carried`, `sent`; `put-same`: `put_entry`).
 -- Assumes nothing.
 use mathlib.Core.List.{List}
-use mathlib.Core.Path.{_≡_}
+use mathlib.Core.Path.{_≡_, sym, ap, _∙_}
 use Prim.Native.Nat.{ℕ}
 use Rattle.text.proofs.Same.{same}
 use Rattle.rows.specs.declared.Note.{Note}
-use Rattle.wire.specs.Parameters.{parameterOf}
+use Rattle.wire.specs.Parameters.{Parameter, refused, holds, parameterOf}
 use Rattle.wire.specs.Texts.{parameterText, writableOf, writtenOf, leavesOf}
 use Rattle.wire.specs.declared.Written.{Written}
-use Rattle.peers.specs.Entries.{readGives, readLeaves, identifierAt, recordAt, writeGives, writeLeaves}
+use Rattle.peers.specs.Entries.{entriesOf, keptOf, Keeps, readGives, readLeaves, identifierAt, recordAt, writeGives, writeLeaves}
 use Rattle.peers.specs.Messages.{sentOf}
+use Rattle.peers.specs.declared.Kept.{Kept}
 
 both-same : {A : Type 0} {a r r′ : A} {b new new′ : List ℕ} → (r ≡ a) × (new ≡ b) → (r′ ≡ a) × (new′ ≡ b) → (r ≡ r′) × (new ≡ new′)
 both-same p q = (same (p .0) (q .0), same (p .1) (q .1))
@@ -42,3 +43,12 @@ Sent n id old w new =
 pub sent-same : (n : Note) (id : ℕ) (old : List ℕ) {w w′ : Written} {new new′ : List ℕ} →
     Sent n id old w new → Sent n id old w′ new′ → (w ≡ w′) × (new ≡ new′)
 sent-same n id old p q = both-same p q
+
+-- What `keep` says of the components from a place on: what became of their entries, and of the buffer.
+pub keeps-same : (message cause : ℕ) (p : Parameter) (old : List ℕ) (from : ℕ) {k k′ : Kept} {new new′ : List ℕ} →
+    Keeps message cause p old from k new → Keeps message cause p old from k′ new′ → (k ≡ k′) × (new ≡ new′)
+unfolding Keeps
+keeps-same message cause (refused n place) old from p q = both-same p q
+keeps-same message cause (holds cs) old from p q =
+    let e = same (p .0) (q .0) in
+    (e, p .1 ∙ ap (λ (k : Kept). keptOf k old from (entriesOf message cause cs)) e ∙ sym (q .1))

@@ -74,15 +74,15 @@ fn ended(message: u8, cause: u8, room: usize, to: usize) -> Kept
 {
     if carrier_ok(message, cause) {
         if room < to {
-            return Kept::Refused(8, 0);
+            return Kept::Refused(NO_ROOM as u8, 0);
         }
         return Kept::All(to);
     }
-    Kept::Refused(3, 0)
+    Kept::Refused(BAD_FIELD as u8, 0)
 }
 
-// The entries of the components from a place on. Nothing may be written before all are read: each is put after those that follow it, so
-// that no room is needed but the stack's, for the 36 components at most that a parameter can have.
+// The entries of the components from a place on. Nothing may be written before all are read: each is put once those that follow it stand in
+// the buffer, so that no room is needed but the stack's, for the 36 components at most that a parameter can have.
 fn keep(s: &[u8], at: usize, message: u8, cause: u8, out: &mut [u8], to: usize) -> Kept
     requires { ⌜ (at ≤ length (now s)) × (length (now s) ≤ 257) × (to ≤ 33 * at) ⌝ }
     ensures { λ r. ⌜ Keeps message cause (walkOf (now (s .entry)) at) (now (out .entry)) to r (now (out .exit)) × KeptWithin r ⌝ }

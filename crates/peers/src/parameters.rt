@@ -4,7 +4,6 @@ ghost use mathlib.Core.Path.{_≡_};
 ghost use Prim.Native.Nat.{_≤_};
 ghost use lib.Dec.{eqb};
 ghost use lib.ListN.{length};
-ghost use Rattle.files.specs.Bytes.{leAt};
 ghost use Rattle.rows.specs.declared.Event.the-variants.{Received};
 ghost use Rattle.wire.specs.Parameters.{walkOf, parameterOf};
 ghost use Rattle.wire.specs.Texts.{parameterText, writableOf};

@@ -4,7 +4,7 @@ use mathlib.Core.Path.{_≡_, refl, sym, ap, subst, _∙_}
 use mathlib.Core.List.{List}
 use Prim.Native.Nat.{ℕ, zero, suc, _+_, _-_, _%_, _≤_, _<_}
 use native.Mathlib.Omega.{arith}
-use lib.ListN.{length, take}
+use lib.ListN.{take}
 use lib.Seq.{getD-take}
 use Rattle.text.proofs.Cases.{yes-lt, no-lt, yes-le, no-le, yes-eq, no-eq, both-lt, both-le, both-eq}
 use Rattle.wire.specs.Bytes.{byteAt, bigAt}

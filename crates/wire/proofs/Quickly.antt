@@ -6,7 +6,7 @@ use Prim.Native.Nat.{ℕ, zero, suc, _+_, _-_, _%_, _^_, _≤_, _<_}
 use native.Mathlib.Nat.{add-zero}
 use native.Mathlib.Omega.{arith}
 use lib.ListN.{length}
-use Rattle.text.proofs.Cases.{yes-lt, no-lt, yes-eq, no-eq, both-lt, both-eq}
+use Rattle.text.proofs.Cases.{yes-lt, no-lt, yes-eq, no-eq, both-eq}
 use Rattle.wire.specs.Bytes.{byteAt}
 use Rattle.wire.specs.Heads.{headOf}
 use Rattle.wire.specs.Cursors.{absentOf, openedOf, insideOf, needOf, closedOf, checkedOf}
@@ -86,21 +86,17 @@ module _ (s : List ℕ) (at tag : ℕ) (e : tag ≡ byteAt s at) where
     near : byteAt s at % 32 ≡ 31 → ⊥
     near z = h (omega arith)
 
-    pub short-long : 127 < size → 128 ≡ shortOf s at
-    unfolding shortOf
-    short-long k = no-eq _ _ _ _ _ near (yes-lt _ _ _ _ _ (omega arith) refl)
-
-    module _ (k : size ≤ 127) (x : ℕ) (d : x ≡ beginsOf s at tag size) where
+    module _ (x : ℕ) (d : x ≡ beginsOf s at tag size) where
       same : beginsOf s at (byteAt s at) (byteAt s (at + 1)) ≡ x
       same = ap (λ (z : ℕ). beginsOf s at z (byteAt s (at + 1))) (sym e) ∙ ap (beginsOf s at tag) (sym (g ∙ f)) ∙ sym d
 
       pub short-here : x ≡ 1 → size ≡ shortOf s at
       unfolding shortOf
-      short-here o = no-eq _ _ _ _ _ near (no-lt _ _ _ _ _ (omega arith) (yes-eq _ _ _ _ _ (same ∙ o) (g ∙ f)))
+      short-here o = no-eq _ _ _ _ _ near (yes-eq _ _ _ _ _ (same ∙ o) (g ∙ f))
 
       pub short-none : (x ≡ 1 → ⊥) → 128 ≡ shortOf s at
       unfolding shortOf
-      short-none o = no-eq _ _ _ _ _ near (no-lt _ _ _ _ _ (omega arith) (no-eq _ _ _ _ _ (λ z. o (sym same ∙ z)) refl))
+      short-none o = no-eq _ _ _ _ _ near (no-eq _ _ _ _ _ (λ z. o (sym same ∙ z)) refl)
 
 record Short (s : List ℕ) (at n : ℕ) : Type 0 where
   pub plain : byteAt s at % 32 ≡ 31 → ⊥
@@ -110,7 +106,6 @@ short-as : (s : List ℕ) (at n : ℕ) → n < 128 → n ≡ shortOf s at → Sh
 unfolding shortOf
 short-as s at n h =
     both-eq _ _ (λ (z : ℕ). n ≡ z → Short s at n) _ _ (λ _ f. absurd (omega arith)) λ k.
-    both-lt _ _ (λ (z : ℕ). n ≡ z → Short s at n) _ _ (λ _ f. absurd (omega arith)) λ _.
     both-eq _ _ (λ (z : ℕ). n ≡ z → Short s at n) _ _
     (λ g f. record { plain = k; stands = subst (Begins s at (byteAt s at)) (sym f) (begins s at (byteAt s at) (byteAt s (at + 1)) g) })
     (λ _ f. absurd (omega arith))

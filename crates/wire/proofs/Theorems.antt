@@ -77,7 +77,7 @@ nothing-after-it s at tag body next other e =
 pub written-is-shortest : (s : List ℕ) (at next : ℕ) (c : Component) → componentOf s at ≡ Answer.Read c next → at + length (componentText c) ≤ next
 written-is-shortest s at next c e = headed s at next c e .short
 
--- No length leaves its holder: an element's contents begin after two bytes at least and end before the holder does, whatever its length
+-- No length leaves its holder: an element's contents begin after two bytes at least and end no later than the holder, whatever its length
 -- says, and elements one after the other end where it ends.
 pub stays-inside : (s : List ℕ) (at end short tag body next : ℕ) → headOf s at end short ≡ Head.Open tag body next → (at + 2 ≤ body) × (body ≤ next) × (next ≤ end)
 stays-inside s at end short tag body next e = subst (HeadWithin at end) e (head-within s at end short)

@@ -1,5 +1,5 @@
 -- The usual form of a component: every length in one byte, and no element but the module's own, each in its place. Whatever is found to
--- have it is what the grammar reads there (Said-as, Read-as); nothing is said of what is found to have another form.
+-- have it is what the grammar reads there (Said-as, Read-as; of a head, headOf itself); nothing is said of what is found to have another form.
 -- Assumes nothing.
 use mathlib.Core.Path.{_≡_}
 use mathlib.Core.List.{List}
@@ -21,12 +21,11 @@ use Rattle.wire.specs.declared.Said.{Said}
 unfoldable pub beginsOf : List ℕ → ℕ → ℕ → ℕ → ℕ
 beginsOf s i tag size = ifLt (length s) (i + (size + 2)) 0 (ifEq (byteAt s i) tag (ifEq (byteAt s (i + 1)) size 1 0) 0)
 
--- the length of an element whose tag and length have a byte each, all of it there; 128 where none is
+-- the byte after a tag of one byte, where so many bytes follow it; 128 where not: below 128 it is the element's length
 unfoldable pub shortOf : List ℕ → ℕ → ℕ
 shortOf s at =
     ifEq (byteAt s at % 32) 31 128
-    (ifLt 127 (byteAt s (at + 1)) 128
-    (ifEq (beginsOf s at (byteAt s at) (byteAt s (at + 1))) 1 (byteAt s (at + 1)) 128))
+    (ifEq (beginsOf s at (byteAt s at) (byteAt s (at + 1))) 1 (byteAt s (at + 1)) 128)
 
 -- the place after it; i where it does not stand there
 unfoldable pub afterOf : List ℕ → ℕ → ℕ → ℕ → ℕ

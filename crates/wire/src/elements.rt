@@ -1,5 +1,5 @@
-// An element and the elements that it holds. The two readers call each other: each call has fewer bytes before it, and one level
-// less is left for what an element holds.
+// An element and the elements that it holds. The two readers call each other: what an element holds has fewer bytes than the element, and
+// one level less is left for it.
 ghost use mathlib.Core.Path.{_≡_};
 ghost use Rattle.wire.specs.Elements.{ownOf, elementOf, sequenceOf};
 use crate::Head;

@@ -1,7 +1,7 @@
 // An element's first bytes: its tag and its length, short or long. `short` is the number for an element that passes `end`: 11 for a
 // component, 12 for what stands in one.
 ghost use mathlib.Core.Path.{_≡_};
-ghost use Prim.Native.Nat.{_≤_, _<_, _^_};
+ghost use Prim.Native.Nat.{_≤_, _<_};
 ghost use Rattle.wire.specs.Heads.{tagAfter, filledOf, lengthOf, headFrom, headOf};
 use crate::Head;
 use crate::bytes::big;

@@ -55,7 +55,7 @@ fn begins(s: &[u8], i: usize, tag: u8, size: usize) -> u8
     0
 }
 
-// The length of an element whose tag and length have a byte each; 128 where not all of one stands there.
+// The byte after a tag of one byte, where so many bytes follow it; 128 where not. Below 128 it is the element's length.
 fn short(s: &[u8], at: usize) -> usize
     ensures { λ r. ⌜ r ≡ shortOf (now (s .entry)) at ⌝ }
 {
@@ -64,9 +64,6 @@ fn short(s: &[u8], at: usize) -> usize
         return 128;
     }
     let size = wide(byte_past(s, at, 1));
-    if 127 < size {
-        return 128;
-    }
     if begins(s, at, tag, size) == 1 {
         return size;
     }

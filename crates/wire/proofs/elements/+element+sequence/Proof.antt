@@ -1,7 +1,6 @@
 -- The proof of the cycle of calls {element, sequence}. The measure is twice the bytes up to the end, and one more for `sequence`, which
 -- calls `element` at its own place.
 -- Assumes nothing.
-use mathlib.Core.Path.{_≡_}
 use Prim.Native.Nat.{ℕ, _+_, _-_, _*_, _<_}
 use native.Mathlib.Omega.{arith}
 use borrow.Author.Needs.{needs}

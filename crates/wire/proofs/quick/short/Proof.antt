@@ -1,4 +1,4 @@
-use Rattle.wire.proofs.Quickly.{short-far, short-long, short-here, short-none}
+use Rattle.wire.proofs.Quickly.{short-far, short-here, short-none}
 use borrow.Author.Needs.{needs}
 use Rattle.wire.proofs.quick.short.Statement.{statement}
 use Rattle.wire.proofs.quick.short.Tie as tie
@@ -15,17 +15,14 @@ byte-past-requires c κs = search needs
 wide-requires : tie.Need-wide-requires
 wide-requires c κs = search needs
 
-returns-2 : tie.Need-returns-2
-returns-2 c = search (short-long)
-
 begins-requires : tie.Need-begins-requires
 begins-requires c κs = search needs
 
-returns-3 : tie.Need-returns-3
-returns-3 c = search (short-here)
+returns-2 : tie.Need-returns-2
+returns-2 c = search (short-here)
 
-returns-4 : tie.Need-returns-4
-returns-4 c = search (short-none)
+returns-3 : tie.Need-returns-3
+returns-3 c = search (short-none)
 
 pub short-spec : {M : Type 1} → statement M
 short-spec =
@@ -35,7 +32,6 @@ short-spec =
     returns
     byte-past-requires
     wide-requires
-    returns-2
     begins-requires
-    returns-3
-    returns-4)
+    returns-2
+    returns-3)

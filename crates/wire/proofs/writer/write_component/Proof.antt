@@ -1,5 +1,5 @@
 use mathlib.Core.Path.{_∙_}
-use Rattle.wire.proofs.Pieces.{write-full, write-fits, write-not, parameter-size}
+use Rattle.wire.proofs.Pieces.{write-full, write-fits, write-not}
 use native.Mathlib.Omega.{arith}
 use borrow.Author.Needs.{needs}
 use Rattle.wire.proofs.writer.write_component.Statement.{statement}

@@ -1,4 +1,3 @@
-use mathlib.Core.Path.{_∙_}
 use Rattle.wire.proofs.Pieces.{write-full, write-fits, write-not, parameter-size}
 use native.Mathlib.Omega.{arith}
 use borrow.Author.Needs.{needs}
