@@ -7,7 +7,7 @@ use mathlib.Core.Bool.{true}
 use mathlib.Core.List.{List, [], _∷_}
 use mathlib.Core.Logic.{_↔_}
 use mathlib.Core.Path.{_≡_}
-use Prim.Native.Nat.{ℕ, _≤_, _<_}
+use Prim.Native.Nat.{ℕ, _%_, _≤_, _<_}
 use Rattle.rows.specs.History.{run}
 use Rattle.rows.specs.Step.{unopenedCall, stepOf, messageOf}
 use Rattle.rows.specs.Valid.{numberThere, eventOk}
@@ -16,13 +16,17 @@ use Rattle.rows.specs.declared.Event.{Event}
 use Rattle.rows.specs.declared.Event.the-variants.{Received}
 use Rattle.rows.specs.declared.Note.{Note}
 use Rattle.wire.specs.Grammar.{componentOf}
-use Rattle.wire.specs.Parameters.{holds, parameterOf}
+use native.Mathlib.Omega.{arith}
+use lib.ListN.{length}
+use Rattle.text.proofs.Cases.{both-so, both-lt}
+use Rattle.wire.specs.Parameters.{Parameter, refused, holds, parameterOf}
 use Rattle.wire.specs.Texts.{parameterText, writableOf}
 use Rattle.wire.specs.declared.Answer.{Answer}
 use Rattle.wire.specs.declared.Component.{Component}
 use Rattle.wire.proofs.Fits.{read-fits}
+use Rattle.wire.proofs.Numbered.{NumberedWhole, parameter-numbered}
 use Rattle.wire.proofs.Theorems.{parameter-reads-back}
-use Rattle.peers.specs.Entries.{carrierOk}
+use Rattle.peers.specs.Entries.{givesOf, orNone, entriesOf, carrierOk, rangedOf, readGives}
 use Rattle.peers.specs.Messages.{receivedOf, sentOf}
 use Rattle.peers.proofs.Backs
 use Rattle.peers.proofs.Backs.{isCoded}
@@ -57,3 +61,22 @@ pub read-in-range : (s : List ℕ) (at next message cause : ℕ) (c : Component)
     eventOk (receivedOf message cause c) ≡ carrierOk message cause
 unfolding receivedOf
 read-in-range s at next message cause c e = fits-ranged message cause c (read-fits s at next c e)
+
+-- Where a host is given the number 0 the entries are there: the parameter was read, every event of it is in range, and there was room. No
+-- refusal of a parameter, whatever its place, can be taken for that.
+abbrev pub Entries : ℕ → ℕ → Parameter → List ℕ → Type 0
+Entries message cause (refused n place) out = ⊥
+Entries message cause (holds cs) out =
+    (rangedOf message cause (orNone cs) ≡ true) × (length (entriesOf message cause (orNone cs)) ≤ length out)
+
+by-number : (message cause : ℕ) (p : Parameter) (out : List ℕ) → NumberedWhole p → readGives message cause p out % 256 ≡ 0 → Entries message cause p out
+unfolding readGives givesOf
+by-number message cause (refused n place) out (h, g) = λ e. absurd (omega arith)
+by-number message cause (holds cs) out h =
+    both-so _ (λ (z : ℕ). z % 256 ≡ 0 → Entries message cause (holds cs) out) _ _
+    (λ r. both-lt _ _ (λ (z : ℕ). z % 256 ≡ 0 → Entries message cause (holds cs) out) _ _ (λ _ e. absurd (omega arith)) (λ l _. (r, l)))
+    (λ _ e. absurd (omega arith))
+
+pub zero-is-written : (s : List ℕ) (message cause : ℕ) (out : List ℕ) → readGives message cause (parameterOf s) out % 256 ≡ 0 →
+    Entries message cause (parameterOf s) out
+zero-is-written s message cause out = by-number message cause (parameterOf s) out (parameter-numbered s)

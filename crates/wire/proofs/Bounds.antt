@@ -14,19 +14,19 @@ use Rattle.wire.specs.declared.Seen.{Seen}
 use Rattle.wire.proofs.Levels.{HeadWithin, head-within, Within, Ends, element-by-within, sequence-ends}
 use Rattle.wire.proofs.Walks.{Twelve, head-twelve, extra-stops}
 
--- ---- a refusal's number is never 0
+-- ---- a refusal's number is 12, 13 or 14
 
-abbrev Told : Seen → Type 0
-Told (Seen.Stop n place) = n ≡ 0 → ⊥
+abbrev pub Told : Seen → Type 0
+Told (Seen.Stop n place) = (12 ≤ n) × (n ≤ 14)
 Told (Seen.Read next) = Unit {0}
 
 enter-told : (h : Head) (at end depth known : ℕ) (held : ℕ → ℕ → ℕ → ℕ → Seen) → HeadWithin at end h → Twelve h
     → ((body next d n : ℕ) → at + 2 ≤ body → body ≤ next → next ≤ end → Told (held body next d n)) → Told (enter h at depth known held)
 unfolding enter
-enter-told (Head.Bad n) at end depth known held w t f = λ e. omega arith
+enter-told (Head.Bad n) at end depth known held w t f = (omega arith, omega arith)
 enter-told (Head.Open tag body next) at end depth known held (h, g, i) t f =
-    both-eq _ _ Told _ _ (λ _ e. omega arith) λ _.
-    both-eq _ _ Told _ _ (λ _ e. omega arith) λ _.
+    both-eq _ _ Told _ _ (λ _. (omega arith, omega arith)) λ _.
+    both-eq _ _ Told _ _ (λ _. (omega arith, omega arith)) λ _.
     both-eq _ _ Told _ _ (λ _. f body next (depth - 1) 0 h g i) (λ _. tt)
 
 follow-told : (x : Seen) (at end : ℕ) (rest : ℕ → Seen) → Told x → Within at end x → ((next : ℕ) → at + 2 ≤ next → next ≤ end → Told (rest next)) → Told (follow x rest)
@@ -50,7 +50,7 @@ mutual
       (λ g. follow-told (elementBy k s at end depth known) at end _ (element-told k s at end depth known (omega arith)) (element-by-within k s at end depth known)
       (λ next p q. sequence-told k s next end depth known (omega arith)))
 
-seq-told : (s : List ℕ) (at end depth known : ℕ) → Told (sequenceOf s at end depth known)
+pub seq-told : (s : List ℕ) (at end depth known : ℕ) → Told (sequenceOf s at end depth known)
 unfolding sequenceOf
 seq-told s at end depth known = sequence-told (suc (suc (2 * (end - at)))) s at end depth known (omega arith)
 
@@ -115,7 +115,7 @@ checked-live ok from c =
 seen-ends : (x : Seen) (end : ℕ) → Told x → Ends end x → seenOf x .number ≡ 0 → seenOf x .at ≡ end
 unfolding seenOf absentOf stoppedOf
 seen-ends (Seen.Read next) end t e z = e
-seen-ends (Seen.Stop n place) end t e z = absurd (t z)
+seen-ends (Seen.Stop n place) end (g, h) e z = absurd (omega arith)
 
 -- what is not known goes to the holder's end
 pub rest-ends : (s : List ℕ) (c : Cursor) (end depth known : ℕ) → restOf s c end depth known .number ≡ 0 → (c .number ≡ 0) × (c .at ≤ restOf s c end depth known .at) × (c .at ≤ end → restOf s c end depth known .at ≤ end)

@@ -12,6 +12,7 @@ pub mod Goods
 pub mod Lengths
 pub mod Levels
 pub mod Listed
+pub mod Numbered
 pub mod Pieces
 pub mod Places
 pub mod Productions

@@ -24,6 +24,7 @@ use Rattle.wire.proofs.Cuts.{Again, Alike, alike-take, Less, head-again
 use Rattle.wire.proofs.Fits.{read-writable}
 use Rattle.wire.proofs.Goods.{Sized}
 use Rattle.wire.proofs.Listed.{Listed, read-listed}
+use Rattle.wire.proofs.Numbered.{Numbered, component-numbered, NumberedWhole, parameter-numbered}
 use Rattle.wire.proofs.Walks.{read-on, walk-end, walk-on, good-walk, bad-refused}
 use Rattle.wire.proofs.Levels.{HeadWithin, head-within, Ends, sequence-ends}
 use Rattle.wire.proofs.Places.{Placed, component-placed, Met, walk-met}
@@ -168,6 +169,14 @@ parameter-beginning-is-cut s k cs e h =
 -- A refusal's place is one of its bytes, or their end.
 pub parameter-refused-within : (s : List ℕ) (n place : ℕ) → parameterOf s ≡ refused n place → place ≤ length s
 parameter-refused-within s n place e = subst (Held s) e (parameter-held s)
+
+-- 02 #105: "11 cut short, 12 bad length, 13 too deep, 14 not a REV component": a refusal is one of these, of a component and of a whole
+-- parameter, so that none is taken for what a host is given with a length (0), with a field (3) or with a room (8).
+pub refused-is-numbered : (s : List ℕ) (at n place : ℕ) → componentOf s at ≡ Answer.Refused n place → (11 ≤ n) × (n ≤ 14)
+refused-is-numbered s at n place e = subst Numbered e (component-numbered s at)
+
+pub parameter-refused-is-numbered : (s : List ℕ) (n place : ℕ) → parameterOf s ≡ refused n place → (11 ≤ n) × (n ≤ 14)
+parameter-refused-is-numbered s n place e = subst NumberedWhole e (parameter-numbered s)
 
 -- Whatever is read can be written, as long as bytes are bytes: nothing comes off the wire that could not be sent on.
 pub read-is-writable : (s : List ℕ) (at next : ℕ) (c : Component) → ((i : ℕ) → byteAt s i < 256) → componentOf s at ≡ Answer.Read c next → writableOf c ≡ 1
