@@ -8,6 +8,9 @@ use mathlib.Core.List.{List, [], _∷_}
 use mathlib.Core.Logic.{_↔_}
 use mathlib.Core.Path.{_≡_}
 use Prim.Native.Nat.{ℕ, _%_, _≤_, _<_}
+use native.Mathlib.Omega.{arith}
+use lib.ListN.{length}
+use Rattle.text.proofs.Cases.{both-so, both-lt}
 use Rattle.rows.specs.History.{run}
 use Rattle.rows.specs.Step.{unopenedCall, stepOf, messageOf}
 use Rattle.rows.specs.Valid.{numberThere, eventOk}
@@ -16,9 +19,6 @@ use Rattle.rows.specs.declared.Event.{Event}
 use Rattle.rows.specs.declared.Event.the-variants.{Received}
 use Rattle.rows.specs.declared.Note.{Note}
 use Rattle.wire.specs.Grammar.{componentOf}
-use native.Mathlib.Omega.{arith}
-use lib.ListN.{length}
-use Rattle.text.proofs.Cases.{both-so, both-lt}
 use Rattle.wire.specs.Parameters.{Parameter, refused, holds, parameterOf}
 use Rattle.wire.specs.Texts.{parameterText, writableOf}
 use Rattle.wire.specs.declared.Answer.{Answer}
