@@ -4,13 +4,13 @@
 -- `writableOf`). Same.antt and Contracts.antt tie them to the contracts of the functions.
 -- Assumes nothing.
 use mathlib.Core.Bool.{true}
-use mathlib.Core.List.{List, [], _∷_}
+use mathlib.Core.List.{List, [], _∷_, _++_}
 use mathlib.Core.Logic.{_↔_}
-use mathlib.Core.Path.{_≡_}
-use Prim.Native.Nat.{ℕ, _%_, _≤_, _<_}
+use mathlib.Core.Path.{_≡_, refl, sym}
+use Prim.Native.Nat.{ℕ, _*_, _%_, _≤_, _<_}
 use native.Mathlib.Omega.{arith}
-use lib.ListN.{length}
-use Rattle.text.proofs.Cases.{both-so, both-lt}
+use lib.ListN.{length, drop}
+use Rattle.text.proofs.Cases.{yes-so, both-so, no-lt, both-lt}
 use Rattle.rows.specs.History.{run}
 use Rattle.rows.specs.Step.{unopenedCall, stepOf, messageOf}
 use Rattle.rows.specs.Valid.{numberThere, eventOk}
@@ -26,7 +26,7 @@ use Rattle.wire.specs.declared.Component.{Component}
 use Rattle.wire.proofs.Fits.{read-fits}
 use Rattle.wire.proofs.Numbered.{NumberedWhole, parameter-numbered}
 use Rattle.wire.proofs.Theorems.{parameter-reads-back}
-use Rattle.peers.specs.Entries.{givesOf, orNone, entriesOf, carrierOk, rangedOf, readGives}
+use Rattle.peers.specs.Entries.{givesOf, leavesOf, orNone, entriesOf, carrierOk, rangedOf, readGives, readLeaves}
 use Rattle.peers.specs.Messages.{receivedOf, sentOf}
 use Rattle.peers.proofs.Backs
 use Rattle.peers.proofs.Backs.{isCoded}
@@ -62,19 +62,22 @@ pub read-in-range : (s : List ℕ) (at next message cause : ℕ) (c : Component)
 unfolding receivedOf
 read-in-range s at next message cause c e = fits-ranged message cause c (read-fits s at next c e)
 
--- Where a host is given the number 0 the entries are there: the parameter was read, every event of it is in range, and there was room. No
--- refusal of a parameter, whatever its place, can be taken for that.
+-- Where a host is given the number 0 the entries are there: the parameter was read, every event of it is in range, there was room, the rest
+-- is how many bytes they have, and the buffer begins with them. No refusal of a parameter, whatever its place, can be taken for that.
 abbrev pub Entries : ℕ → ℕ → Parameter → List ℕ → Type 0
 Entries message cause (refused n place) out = ⊥
 Entries message cause (holds cs) out =
     (rangedOf message cause (orNone cs) ≡ true) × (length (entriesOf message cause (orNone cs)) ≤ length out)
+    × (readGives message cause (holds cs) out ≡ 256 * length (entriesOf message cause (orNone cs)))
+    × (readLeaves message cause (holds cs) out ≡ entriesOf message cause (orNone cs) ++ drop (length (entriesOf message cause (orNone cs))) out)
 
 by-number : (message cause : ℕ) (p : Parameter) (out : List ℕ) → NumberedWhole p → readGives message cause p out % 256 ≡ 0 → Entries message cause p out
-unfolding readGives givesOf
+unfolding readGives readLeaves givesOf leavesOf
 by-number message cause (refused n place) out (h, g) = λ e. absurd (omega arith)
 by-number message cause (holds cs) out h =
     both-so _ (λ (z : ℕ). z % 256 ≡ 0 → Entries message cause (holds cs) out) _ _
-    (λ r. both-lt _ _ (λ (z : ℕ). z % 256 ≡ 0 → Entries message cause (holds cs) out) _ _ (λ _ e. absurd (omega arith)) (λ l _. (r, l)))
+    (λ r. both-lt _ _ (λ (z : ℕ). z % 256 ≡ 0 → Entries message cause (holds cs) out) _ _ (λ _ e. absurd (omega arith))
+    (λ l _. (r, l, sym (yes-so _ _ _ _ r (no-lt _ _ _ _ _ l (omega arith))), sym (yes-so _ _ _ _ r (no-lt _ _ _ _ _ l refl)))))
     (λ _ e. absurd (omega arith))
 
 pub zero-is-written : (s : List ℕ) (message cause : ℕ) (out : List ℕ) → readGives message cause (parameterOf s) out % 256 ≡ 0 →

@@ -171,7 +171,8 @@ pub parameter-refused-within : (s : List ℕ) (n place : ℕ) → parameterOf s 
 parameter-refused-within s n place e = subst (Held s) e (parameter-held s)
 
 -- 02 #105: "11 cut short, 12 bad length, 13 too deep, 14 not a REV component": a refusal is one of these, of a component and of a whole
--- parameter, so that none is taken for what a host is given with a length (0), with a field (3) or with a room (8).
+-- parameter, so that none is taken for what a host is given with a length (0), with a field (3) or with a room (8). Which of them where is
+-- said by `beginning-is-cut`, `nothing-after-it` and the worked rows.
 pub refused-is-numbered : (s : List ℕ) (at n place : ℕ) → componentOf s at ≡ Answer.Refused n place → (11 ≤ n) × (n ≤ 14)
 refused-is-numbered s at n place e = subst Numbered e (component-numbered s at)
 
