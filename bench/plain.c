@@ -33,7 +33,11 @@ enum answer {
     BAD_LENGTH = 6,
     UNKNOWN_KIND = 7,
     REFUSED = 8,
-    NOBODY_PAYS = 10
+    NOBODY_PAYS = 10,
+    WRONG_PHASE = 15,
+    WRONG_STATE = 16,
+    BEFORE_OPENING = 17,
+    SECOND_OPENING = 18
 };
 
 enum role { ORIGINATING, DESTINATION };
@@ -960,23 +964,109 @@ static enum answer pass(struct call *call, uint32_t seconds)
     }
 }
 
-/* Where the answer isn't APPLIED the call is as before and there are no actions. */
-static enum answer take(struct call *call, struct actions *actions, const struct event *event)
+/* ---- Why there is no row ---- */
+
+/* The phases in which a role has a row for an event, in some REV state: a bit each. */
+enum phases {
+    NEVER = 0,
+    IN_NULL = 1 << PHASE_NULL,
+    IN_SETUP = 1 << PHASE_SETUP,
+    IN_ANSWERED = 1 << PHASE_ANSWERED,
+    IN_BOTH = IN_SETUP | IN_ANSWERED
+};
+
+/* What a message carries, as the tables have it: nothing, an invoke or a result by its operation, an error, a reject. */
+enum { CARRIES = 9 };
+
+static unsigned carried(const struct event *message)
 {
-    if (call->phase == PHASE_NONE) {
-        if (event->kind != KIND_OPENING)
-            return NO_ROW;
-        call->role = event->item; /* G1 */
-        call->flags = event->bits;
-        call->own = event->own;
-        call->phase = PHASE_NULL;
-        return APPLIED;
+    static const uint8_t first[] = {[NO_COMPONENT] = 0, [INVOKE] = 0, [RESULT] = 3, [ERROR] = 7, [REJECT] = 8};
+
+    return first[message->component] + (message->component == ERROR ? 0 : message->detail);
+}
+
+/* By role and request, message or access item. Columns: none; invoke SETUP, ACTIVE, CALLED; result the same; error; reject. */
+static const uint8_t request_phases[2][1 + REQUEST_C] = {
+    [ORIGINATING] = {IN_NULL, IN_NULL | IN_ANSWERED, IN_ANSWERED, IN_ANSWERED},
+    [DESTINATION] = {NEVER, IN_BOTH, IN_BOTH, IN_BOTH},
+};
+
+static const uint8_t message_phases[2][1 + FAC][CARRIES] = {
+    [ORIGINATING] =
+        {
+            [ANM] = {IN_SETUP, NEVER, NEVER, NEVER, IN_SETUP},
+            [CON] = {IN_SETUP, NEVER, NEVER, NEVER, IN_SETUP},
+            [REL] = {IN_BOTH, IN_BOTH, IN_BOTH, IN_BOTH, IN_BOTH, IN_BOTH, IN_BOTH, IN_BOTH, IN_BOTH},
+            [FAC] = {IN_ANSWERED, IN_ANSWERED, IN_ANSWERED, IN_BOTH, NEVER, IN_ANSWERED, NEVER, IN_ANSWERED, IN_ANSWERED},
+        },
+    [DESTINATION] =
+        {
+            [IAM] = {IN_NULL, IN_NULL},
+            [REL] = {IN_BOTH, IN_BOTH, IN_BOTH, IN_BOTH, IN_BOTH, IN_BOTH, IN_BOTH, IN_BOTH, IN_BOTH},
+            [FAC] = {NEVER, IN_BOTH, IN_BOTH, IN_BOTH, NEVER, NEVER, IN_BOTH, IN_BOTH, IN_BOTH},
+        },
+};
+
+static const uint8_t access_phases[2][1 + ACCESS_ANSWER] = {
+    [ORIGINATING] = {[ACCESS_CLEAR] = IN_BOTH},
+    [DESTINATION] = {[ACCESS_ACCEPT] = IN_BOTH,
+                     [ACCESS_ERROR] = IN_BOTH,
+                     [ACCESS_REJECT] = IN_BOTH,
+                     [ACCESS_CLEAR] = IN_BOTH,
+                     [ACCESS_ANSWER] = IN_SETUP},
+};
+
+static unsigned phases_of(enum role role, const struct event *event)
+{
+    switch (event->kind) {
+    case KIND_REQUEST:
+        return request_phases[role][event->item];
+    case KIND_MESSAGE:
+        return message_phases[role][event->item][carried(event)];
+    case KIND_ACCESS:
+        return access_phases[role][event->item];
+    default: /* an expiry, or time */
+        return IN_BOTH;
     }
+}
+
+static enum answer why_no_row(const struct call *call, const struct event *event)
+{
+    unsigned phases = phases_of(call->role, event);
+
+    if (phases == NEVER)
+        return NO_ROW;
+    return phases & 1u << call->phase ? WRONG_STATE : WRONG_PHASE;
+}
+
+/* ---- Events in range ---- */
+
+static enum answer find_row(struct call *call, struct actions *actions, const struct event *event)
+{
     if (call->phase == PHASE_CLEARED)
         return NO_ROW;
     if (event->kind == KIND_TIME)
         return pass(call, event->seconds);
     return call->role == ORIGINATING ? originating(call, actions, event) : destination(call, actions, event);
+}
+
+/*
+ * An opening comes to a call before it, every other event to one after it. Where the answer isn't APPLIED the call is as before and there
+ * are no actions.
+ */
+static enum answer take(struct call *call, struct actions *actions, const struct event *event)
+{
+    enum answer answer;
+
+    if (event->kind == KIND_OPENING) { /* G1 */
+        call->role = event->item;
+        call->flags = event->bits;
+        call->own = event->own;
+        call->phase = PHASE_NULL;
+        return APPLIED;
+    }
+    answer = find_row(call, actions, event);
+    return answer == NO_ROW ? why_no_row(call, event) : answer;
 }
 
 /* ---- Text ---- */
@@ -1131,11 +1221,20 @@ static uint8_t *put_action(uint8_t *to, const struct action *action, const struc
     return to;
 }
 
+/* No answer is above 19. */
+static uint8_t *put_answer(uint8_t *to, enum answer answer)
+{
+    if (answer >= 10)
+        *to++ = '1';
+    *to++ = '0' + answer % 10;
+    return to;
+}
+
 static uint8_t *put_line(uint8_t *to, unsigned ordinal, enum answer answer, const struct call *call)
 {
     to = put_number(to, ordinal);
     *to++ = ' ';
-    to = put_number(to, answer);
+    to = put_answer(to, answer);
     to = put_phase(to, call->phase);
     to = put_rev(to, call->rev);
     to = put_number(to, call->meter[CALLER]);
@@ -1161,6 +1260,14 @@ static struct history begin(const uint8_t *file, size_t file_len)
     return (struct history){.at = file, .end = file + file_len};
 }
 
+/* Judges a well-framed record: 17 or 18 by its kind alone, then 3, then what the event gets. */
+static enum answer judge(struct call *call, struct actions *actions, const uint8_t *body, struct event *event)
+{
+    if ((event->kind == KIND_OPENING) != (call->phase == PHASE_NONE))
+        return event->kind == KIND_OPENING ? SECOND_OPENING : BEFORE_OPENING;
+    return read_event(body, event) ? take(call, actions, event) : OUT_OF_RANGE;
+}
+
 /* Takes the next record and writes its line and actions. Reading stops after 5, 6 and 7. */
 static uint8_t *put_record(uint8_t *to, struct history *history)
 {
@@ -1173,10 +1280,7 @@ static uint8_t *put_record(uint8_t *to, struct history *history)
     if (answer != APPLIED) {
         history->at = history->end;
     } else {
-        if (read_event(history->at + 4, &event))
-            answer = take(&history->call, &actions, &event);
-        else
-            answer = OUT_OF_RANGE;
+        answer = judge(&history->call, &actions, history->at + 4, &event);
         history->at += size;
     }
     to = put_line(to, ++history->shown, answer, &history->call);
@@ -1261,10 +1365,10 @@ static uint8_t *store_head(uint8_t *to, unsigned length, enum kind kind)
     return store_four(to, length | (uint32_t)kind << 16);
 }
 
-/* In range where they are wanted, else none. */
-static int digits_as_wanted(int wanted, struct digits digits)
+/* 3, and which field of the record's body is the first that is out of its range, from 1. */
+static uint32_t bad_field(unsigned ordinal)
 {
-    return wanted ? digits_in_range(digits) : digits_absent(digits);
+    return OUT_OF_RANGE + 256 * ordinal;
 }
 
 uint32_t plain_write_opening(uint8_t role, uint8_t flags, bool own_international, uint8_t own_count, uint64_t own_value, uint8_t *out,
@@ -1272,8 +1376,12 @@ uint32_t plain_write_opening(uint8_t role, uint8_t flags, bool own_international
 {
     struct digits own = {.value = own_value, .count = own_count, .international = own_international};
 
-    if (role > DESTINATION || flags > 31 || !digits_in_range(own))
-        return OUT_OF_RANGE;
+    if (role > DESTINATION)
+        return bad_field(1);
+    if (flags > 31)
+        return bad_field(2);
+    if (!digits_in_range(own))
+        return bad_field(3);
     if (out_len < 15)
         return REFUSED;
     store_digits(store(store(store_head(out, 13, KIND_OPENING), role), flags), own);
@@ -1285,8 +1393,10 @@ uint32_t plain_write_request(uint8_t request, bool called_international, uint8_t
 {
     struct digits called = {.value = called_value, .count = called_count, .international = called_international};
 
-    if (request > REQUEST_C || !digits_as_wanted(request <= REQUEST_A, called))
-        return OUT_OF_RANGE;
+    if (request > REQUEST_C)
+        return bad_field(1);
+    if (request <= REQUEST_A ? !digits_in_range(called) : !digits_absent(called))
+        return bad_field(2);
     if (out_len < 14)
         return REFUSED;
     store_digits(store(store_head(out, 12, KIND_REQUEST), request), called);
@@ -1302,12 +1412,24 @@ uint32_t plain_write_message(uint8_t message, uint8_t cause, uint8_t component, 
     unsigned length = 7 + parts_length(parts);
     uint8_t *to;
 
-    if (message < IAM || message > FAC || cause > 127 || !detail_in_range(component, item) || !parts_in_range(parts))
-        return OUT_OF_RANGE;
-    if (!digits_as_wanted(parts & PART_CALLING, calling) || !digits_as_wanted(parts & PART_CALLED, called))
-        return OUT_OF_RANGE;
-    if (!(parts & PART_DURATION) && duration != 0)
-        return OUT_OF_RANGE;
+    if (message < IAM || message > FAC)
+        return bad_field(1);
+    if (cause > 127)
+        return bad_field(2);
+    if (component > REJECT)
+        return bad_field(3);
+    if (!detail_in_range(component, item))
+        return bad_field(4);
+    if (!parts_in_range(parts))
+        return bad_field(5);
+    /* what is there and not named is a fault of the parts too */
+    if ((!(parts & PART_CALLING) && !digits_absent(calling)) || (!(parts & PART_CALLED) && !digits_absent(called)) ||
+        (!(parts & PART_DURATION) && duration != 0))
+        return bad_field(5);
+    if (parts & PART_CALLING && !digits_in_range(calling))
+        return bad_field(6);
+    if (parts & PART_CALLED && !digits_in_range(called))
+        return bad_field(parts & PART_CALLING ? 7 : 6);
     if (out_len < 2 + length)
         return REFUSED;
     to = store_head(out, length, KIND_MESSAGE);
@@ -1323,8 +1445,10 @@ uint32_t plain_write_message(uint8_t message, uint8_t cause, uint8_t component, 
 
 uint32_t plain_write_access(uint8_t told, uint8_t error, uint8_t *out, size_t out_len)
 {
-    if (told < ACCESS_ACCEPT || told > ACCESS_ANSWER || (told != ACCESS_ERROR && error != 0))
-        return OUT_OF_RANGE;
+    if (told < ACCESS_ACCEPT || told > ACCESS_ANSWER)
+        return bad_field(1);
+    if (told != ACCESS_ERROR && error != 0)
+        return bad_field(2);
     if (out_len < 6)
         return REFUSED;
     store(store(store_head(out, 4, KIND_ACCESS), told), error);
@@ -1342,7 +1466,7 @@ uint32_t plain_write_expiry(uint8_t *out, size_t out_len)
 uint32_t plain_write_time(uint32_t seconds, uint8_t *out, size_t out_len)
 {
     if (seconds > DAY)
-        return OUT_OF_RANGE;
+        return bad_field(1);
     if (out_len < 8)
         return REFUSED;
     store_four(store_head(out, 6, KIND_TIME), seconds);

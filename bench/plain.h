@@ -15,7 +15,8 @@ size_t plain_listing(const uint8_t *file, size_t file_len, uint8_t *out, size_t 
 
 /*
  * Each writes a record at the start of `out` and gives 0; bytes of `out` past the record stay as they are. Gives 3 if a field is out of its
- * range, else 8 if the record has more than `out_len` bytes, and changes no byte of `out`.
+ * range, and in the bits above its byte which is the first in the record's body, from 1; else 8 if the record has more than `out_len`
+ * bytes. Then it changes no byte of `out`.
  */
 uint32_t plain_write_opening(uint8_t role, uint8_t flags, bool own_international, uint8_t own_count, uint64_t own_value, uint8_t *out,
                              size_t out_len);
@@ -31,15 +32,17 @@ uint32_t plain_write_time(uint32_t seconds, uint8_t *out, size_t out_len);
 /*
  * Reads the whole parameter at `parameter` and writes an entry for each of its components to `out`, or one of no component: the identifier
  * in two bytes, of which 256 is none, and the record of kind 3 with this message and cause. Gives a number and in the bits above its byte
- * a place or a length: 11 to 14 and the place; 3 where message or cause is out of its range; 8 where the entries have more than `out_len`
- * bytes; else 0 and how many they have. Bytes of `out` past them stay as they are, all of them on a refusal. The two must not overlap.
+ * a place, a field or a length: 11 to 14 and the place; 3 and 1 where the message is out of its range, 3 and 2 where the cause is; 8 where
+ * the entries have more than `out_len` bytes; else 0 and how many they have. Bytes of `out` past them stay as they are, all of them on a
+ * refusal. The two must not overlap.
  */
 uint32_t plain_read_parameter(const uint8_t *parameter, size_t parameter_len, uint8_t message, uint8_t cause, uint8_t *out, size_t out_len);
 
 /*
  * Writes the parameter with the component of one entry to `out`. What follows the entry is not looked at. Gives 5, 6 or 7 where its record
- * cannot be read; 3 where it is of another kind or its component cannot be written; 8 where the parameter has more than `out_len` bytes;
- * else 0 and, in the bits above its byte, the parameter's length. For `out` the same holds.
+ * cannot be read; 3 where it is of another kind or its component cannot be written, and in the bits above its byte which field of the
+ * record's body is the first to blame, from 1, after them the identifier, and 0 for another kind; 8 where the parameter has more than
+ * `out_len` bytes; else 0 and, in these bits, the parameter's length. For `out` the same holds.
  */
 uint32_t plain_write_parameter(const uint8_t *entry, size_t entry_len, uint8_t *out, size_t out_len);
 

@@ -1,6 +1,6 @@
 /*
  * The reader and the writer of the ISUP Remote operations parameter (02 #105) in plain C: what the proved ones are compared with, in bytes
- * and in instructions. It shares no code with them. Numbers given back are in enum answer, with a place or a length in the rest.
+ * and in instructions. It shares no code with them. Numbers given back are in enum answer, with a place, a length or a field in the rest.
  *
  * A parameter is read in one pass from left to right. Nothing may be written if a component is refused or the entries don't fit, so they
  * are put together on the stack and copied at the end: a parameter has 255 octets of contents at most, so its entries are few. Neighbours
@@ -447,9 +447,20 @@ static uint8_t *read_component(struct reader *reader, const uint8_t *place, stru
     return to_end != NULL ? put_head(to, to_end, head, identifier, kind) : NULL;
 }
 
-static bool message_in_range(unsigned message, unsigned cause)
+/* 3, and which field of a record's body is the first to blame, from 1. */
+static uint32_t bad_field(unsigned ordinal)
 {
-    return message >= 1 && message <= 5 && cause <= 127;
+    return OUT_OF_RANGE + 256 * ordinal;
+}
+
+static bool message_in_range(unsigned message)
+{
+    return message >= 1 && message <= 5;
+}
+
+static bool cause_in_range(unsigned cause)
+{
+    return cause <= 127;
 }
 
 uint32_t plain_read_parameter(const uint8_t *parameter, size_t parameter_len, uint8_t message, uint8_t cause, uint8_t *out,
@@ -485,8 +496,10 @@ uint32_t plain_read_parameter(const uint8_t *parameter, size_t parameter_len, ui
         to[10] = 0;
         to = put_head(to, to + ENTRY, head, NO_IDENTIFIER, NO_COMPONENT);
     }
-    if (!message_in_range(message, cause))
-        return OUT_OF_RANGE;
+    if (!message_in_range(message))
+        return bad_field(1);
+    if (!cause_in_range(cause))
+        return bad_field(2);
     length = (size_t)(to - entries);
     if (out_len < length)
         return NO_ROOM;
@@ -541,8 +554,11 @@ struct parts {
     uint32_t duration;
 };
 
-/* Reads the parts of an operation's entry. Gives whether they can be written: each has a place in this operation and is in range. */
-static bool read_entry_parts(const uint8_t *entry, unsigned kind, unsigned operation, struct parts *parts)
+/*
+ * Reads the parts of an operation's entry. Gives 0 where they can be written: each has a place in this operation and is in range. Else the
+ * field that is the first to blame.
+ */
+static unsigned read_entry_parts(const uint8_t *entry, unsigned kind, unsigned operation, struct parts *parts)
 {
     static const uint8_t places[2][3] = {
         {TRANSFER | CALLING, TRANSFER | CALLING, TRANSFER | CALLED | PARTIAL},
@@ -552,20 +568,27 @@ static bool read_entry_parts(const uint8_t *entry, unsigned kind, unsigned opera
 
     parts->named = entry[10];
     if (parts->named & ~places[kind - INVOKE][operation - SETUP] || (parts->named & (ACCEPTED | AS_TRANSFER)) == AS_TRANSFER)
-        return false;
+        return 5;
     if (parts->named & (CALLING | CALLED)) {
         parts->count = at[0] & 0x7F;
         parts->international = at[0] >> 7;
         memcpy(&parts->value, at + 1, sizeof parts->value);
         if (!plain_digits_fit(parts->count, parts->value))
-            return false;
+            return 6;
         at += NUMBER_LENGTH;
     }
     if (parts->named & DURATION) {
         memcpy(&parts->duration, at, sizeof parts->duration);
-        return parts->duration <= LONGEST_DURATION;
+        if (parts->duration > LONGEST_DURATION)
+            return parts->named & CALLING ? 7 : 6;
     }
-    return true;
+    return 0;
+}
+
+/* The field of the identifier, after those that the parts name. */
+static unsigned identifier_field(const struct parts *parts)
+{
+    return 6 + (parts->named & (CALLING | CALLED) ? 1 : 0) + (parts->named & DURATION ? 1 : 0);
 }
 
 /* The octets of a number after its tag and length. */
@@ -645,10 +668,15 @@ static const uint8_t reject_of_none[10] = {NAME, 8, PROFILE, TAG_COMPONENT + REJ
 static uint32_t write_operation(const uint8_t *entry, unsigned identifier, unsigned kind, unsigned operation, uint8_t *out, size_t out_len)
 {
     struct parts parts = {0};
-    unsigned octets, length;
+    unsigned bad, octets, length;
 
-    if (identifier >= NO_IDENTIFIER || operation < SETUP || operation > CALLED_REQUEST || !read_entry_parts(entry, kind, operation, &parts))
-        return OUT_OF_RANGE;
+    if (operation < SETUP || operation > CALLED_REQUEST)
+        return bad_field(4);
+    bad = read_entry_parts(entry, kind, operation, &parts);
+    if (bad != 0)
+        return bad_field(bad);
+    if (identifier >= NO_IDENTIFIER)
+        return bad_field(identifier_field(&parts));
     octets = parts_octets(&parts);
     length = octets + (kind == INVOKE ? sizeof invoke : sizeof result);
     if (out_len < length)
@@ -669,10 +697,14 @@ static uint32_t write_operation(const uint8_t *entry, unsigned identifier, unsig
     return DONE + 256 * length;
 }
 
-static uint32_t write_error(unsigned identifier, unsigned number, uint8_t *out, size_t out_len)
+static uint32_t write_error(unsigned identifier, unsigned number, unsigned parts, uint8_t *out, size_t out_len)
 {
-    if (identifier >= NO_IDENTIFIER || number < FIRST_ERROR || number > LAST_ERROR)
-        return OUT_OF_RANGE;
+    if (number < FIRST_ERROR || number > LAST_ERROR)
+        return bad_field(4);
+    if (parts != 0)
+        return bad_field(5);
+    if (identifier >= NO_IDENTIFIER)
+        return bad_field(6);
     if (out_len < sizeof error)
         return NO_ROOM;
     memcpy(out, error, sizeof error);
@@ -681,10 +713,14 @@ static uint32_t write_error(unsigned identifier, unsigned number, uint8_t *out, 
     return DONE + 256 * sizeof error;
 }
 
-static uint32_t write_reject(unsigned identifier, uint8_t *out, size_t out_len)
+static uint32_t write_reject(unsigned identifier, unsigned number, unsigned parts, uint8_t *out, size_t out_len)
 {
+    if (number != 0)
+        return bad_field(4);
+    if (parts != 0)
+        return bad_field(5);
     if (identifier > NO_IDENTIFIER)
-        return OUT_OF_RANGE;
+        return bad_field(6);
     if (identifier == NO_IDENTIFIER) {
         if (out_len < sizeof reject_of_none)
             return NO_ROOM;
@@ -708,17 +744,19 @@ uint32_t plain_write_parameter(const uint8_t *entry, size_t entry_len, uint8_t *
     identifier = two_bytes(entry);
     item = entry[9];
     parts = entry[10];
-    if (!message_in_range(entry[6], entry[7]))
-        return OUT_OF_RANGE;
+    if (!message_in_range(entry[6]))
+        return bad_field(1);
+    if (!cause_in_range(entry[7]))
+        return bad_field(2);
     switch (entry[8]) {
     case INVOKE:
     case RESULT:
         return write_operation(entry, identifier, entry[8], item, out, out_len);
     case ERROR:
-        return parts == 0 ? write_error(identifier, item, out, out_len) : OUT_OF_RANGE;
+        return write_error(identifier, item, parts, out, out_len);
     case REJECT:
-        return parts == 0 && item == 0 ? write_reject(identifier, out, out_len) : OUT_OF_RANGE;
+        return write_reject(identifier, item, parts, out, out_len);
     default:
-        return OUT_OF_RANGE;
+        return bad_field(3);
     }
 }

@@ -68,7 +68,7 @@ write_files() {
         cat $room/most.rev $room/most.rev >$room/twice
         mv $room/twice $room/most.rev
     done
-    awk 'BEGIN { print "REV 1"; for (i = 1; i <= 16384; i++) print i, "1 NONE IDLE 0 0 0"; print "END 16384" }' >$room/most.txt
+    awk 'BEGIN { print "REV 1"; for (i = 1; i <= 16384; i++) print i, "17 NONE IDLE 0 0 0"; print "END 16384" }' >$room/most.txt
     { cat $room/most.rev; printf '\002'; } >$room/over.rev
     # case L of tests/cases.txt: its records in hex, and its listing
     sed -n '/^## case-L$/,/^=$/p' tests/cases.txt | grep -v '[^0-9a-f]' >$room/case-l.hex

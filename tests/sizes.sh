@@ -23,7 +23,7 @@ repeat() { # COUNT ESCAPES: the bytes so many times
     # shellcheck disable=SC2059 # a format of escapes alone
     printf "$(cat "$room/escapes")"
 }
-# 2,114 FAC messages with both numbers and a Duration (31 bytes each) are 65,534 bytes; before the opening each gets 1
+# 2,114 FAC messages with both numbers and a Duration (31 bytes each) are 65,534 bytes; before the opening each gets 17
 n='\001\001\000\000\000\000\000\000\000'
 message='\035\000\003\000\005\000\000\000\160'$n$n'\001\000\000\000'
 for _ in 1 2; do
@@ -35,18 +35,18 @@ expect "a file of 65,535 bytes" "$room/file" 0 "END 2115"
 expect "a file of 65,536 bytes" "$room/file" 0 "END 2115"
 { cat "$room/most"; printf '\002\000\005'; } >"$room/file"
 expect "a file of 65,537 bytes" "$room/file" 10 "REFUSED 8"
-# 2,896 records: expiries before the opening, an opening, a basic call, and so many times in SETUP, each a byte longer in the listing
-for times in 12 13 14; do
+# 2,775 records: expiries before the opening, an opening, a basic call, and so many expiries in SETUP, each a byte longer in the listing
+for times in 22 23 24; do
     {
-        repeat $((2894 - times)) '\002\000\005\000'
+        repeat $((2773 - times)) '\002\000\005\000'
         printf '\015\000\001\000\000\010\001\001\000\000\000\000\000\000\000'
         printf '\014\000\002\000\000\001\001\000\000\000\000\000\000\000'
-        repeat $times '\006\000\006\000\000\000\000\000'
+        repeat $times '\002\000\005\000'
     } >"$room/file"
-    length=$((65523 + times))
+    length=$((65513 + times))
     case $times in
-    14) expect "a listing of 65,537 bytes" "$room/file" 10 "REFUSED 8" ;;
-    *) expect "a listing of $length bytes" "$room/file" $length "END 2896" ;;
+    24) expect "a listing of 65,537 bytes" "$room/file" 10 "REFUSED 8" ;;
+    *) expect "a listing of $length bytes" "$room/file" $length "END 2775" ;;
     esac
 done
 exit $fail

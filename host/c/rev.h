@@ -29,7 +29,10 @@ extern "C" {
  */
 #define REV_TOO_LONG 8u
 
-/* Given back by a writer: the record is written; a field is out of its range. */
+/*
+ * Given back by a writer: the record is written; a field is out of its range. Beside the latter stands which field it is, so that only the
+ * number of what was given (REV_NUMBER) is equal to it. The same by rev_read_parameter and rev_write_parameter.
+ */
 #define REV_WRITTEN 0u
 #define REV_BAD_FIELD 3u
 
@@ -39,7 +42,7 @@ extern "C" {
 #define REV_TOO_DEEP 13u
 #define REV_NOT_OURS 14u
 
-/* The number of what was given; and the rest, which is a place or a count of bytes, and 0 from a writer of records. */
+/* The number of what was given; and the rest: the ordinal of a field, a place or a count of bytes, as each function says, else 0. */
 #define REV_NUMBER(given) ((given) & 0xFFu)
 #define REV_REST(given) ((given) >> 8)
 
@@ -104,8 +107,18 @@ size_t rev_dump(const uint8_t *file, size_t file_len, uint8_t *out, size_t out_l
  *   REV_BAD_FIELD    a field is out of its range, or a number or Duration is there that the event does not name
  *   REV_TOO_LONG     all fields are in range, and the record has more than out_len bytes
  *
- * The number is the low byte of what they give (REV_NUMBER); the rest is 0. On both refusals every byte of `out` is as it was. What they
- * write, the listing and the dump read back as the same event.
+ * The number is the low byte of what they give (REV_NUMBER). With REV_BAD_FIELD the rest (REV_REST) is the ordinal of the first field that
+ * is to blame, so that what they give is 3 + 256 * ordinal; else it is 0. Fields are counted from 1 in the record, and a telephone number
+ * is one of them:
+ *
+ *   opening          role 1, flags 2, own number 3
+ *   request          request 1, called number 2
+ *   message          message 1, cause 2, component 3, item 4, parts 5, then those that the parts name: calling number, called number,
+ *                    Duration. So a called number alone is 6. A number or Duration that is there and not named is a fault of the parts, 5
+ *   access           told 1, error 2
+ *   time             seconds 1
+ *
+ * On both refusals every byte of `out` is as it was. What they write, the listing and the dump read back as the same event.
  *
  * This holds for any fields and any length, 0 among them. Of a bool nothing has to be looked at: C makes true of every value but 0. But C
  * passes a number that is too large for its parameter's type without its high bits, and none of them sees it: 256 as a count arrives as 0,
@@ -150,7 +163,7 @@ bool rev_same_number(bool international, uint8_t count, uint64_t value, bool oth
  *   REV_BAD_LENGTH   right, and this is the first of them at the first place that has one; docs/WIRE.md says which where
  *   REV_TOO_DEEP
  *   REV_NOT_OURS
- *   REV_BAD_FIELD    message or cause is out of its range; the rest is 0
+ *   REV_BAD_FIELD    message or cause is out of its range; the rest is 1 for the message, else 2
  *   REV_TOO_LONG     the entries have more than out_len bytes; the rest is 0
  *   REV_WRITTEN      the entries stand at `out`; the rest is how many bytes they have, 11 at least
  *
@@ -161,9 +174,10 @@ bool rev_same_number(bool international, uint8_t count, uint64_t value, bool oth
  *                    none after them
  *   REV_BAD_FIELD    the record is of another kind, a field of it is out of its range, or its component cannot be written: component 0; an
  *                    error that is none of 4 to 12; a part that this component has no place for; a Duration above 921,599 seconds; an
- *                    identifier above 256, or none but in a reject
+ *                    identifier above 256, or none but in a reject. The rest is the ordinal of the first field that is to blame, counted
+ *                    as rev_write_message counts them, the identifier after the last; 0 for a record of another kind
  *   REV_TOO_LONG     the parameter has more than out_len bytes
- *   REV_WRITTEN      the parameter stands at `out`; the rest is its length. Of each other number the rest is 0
+ *   REV_WRITTEN      the parameter stands at `out`; the rest is its length. Of 5, 6, 7 and REV_TOO_LONG the rest is 0
  *
  * Bytes of `out` past what was written are as they were, and on every number but REV_WRITTEN all of them are. A parameter that was written
  * is read back as its one component; one that came may be written with other bytes, and fewer.

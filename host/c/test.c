@@ -5,8 +5,8 @@
  * begins.
  *
  * And of the writers, for events of each kind, in range and not: rooms of every size from 0 to past the record, with the same guards. A bad
- * field gives 3 in every room and changes nothing; else a room too small gives 8 and changes nothing, and another has the record. Of a
- * number that was written, dump and listing show the nature.
+ * field gives 3 and the ordinal of the first in every room and changes nothing; else a room too small gives 8 and changes nothing, and
+ * another has the record. Of a number that was written, dump and listing show the nature.
  *
  * And of numbers, all pairs of some: they are the same where nature, count and value are, and nowhere else.
  *
@@ -97,7 +97,7 @@ struct number {
     uint64_t value;
 };
 
-/* An event, with its record where all its fields are in range. */
+/* An event, with its record where all its fields are in range, else with the ordinal of the first that is not. */
 struct event {
     enum kind kind;
     uint8_t item; /* the role, the request, the message, or what the access told */
@@ -105,6 +105,7 @@ struct event {
     struct number own, calling, called;
     uint32_t seconds;
     uint8_t record[REV_RECORD];
+    uint8_t bad;
 };
 
 #define HOME {false, 7, 5550100}
@@ -123,38 +124,39 @@ static const struct event events[] = {
     {OPENING, .item = 0, .flags = 8, .own = ABROAD, .record = {13, 0, 1, 0, 0, 8, ABROAD_BYTES}},
     {OPENING, .item = 1, .flags = 31, .own = MOST, .record = {13, 0, 1, 0, 1, 31, MOST_BYTES}},
     {OPENING, .item = 1, .flags = 31, .own = MOST_ABROAD, .record = {13, 0, 1, 0, 1, 31, MOST_ABROAD_BYTES}},
-    {OPENING, .item = 2, .flags = 8, .own = HOME},
-    {OPENING, .item = 0, .flags = 32, .own = HOME},
-    {OPENING, .item = 0, .flags = 8},
-    {OPENING, .item = 0, .flags = 8, .own = NO_DIGITS_ABROAD},
-    {OPENING, .item = 0, .flags = 8, .own = {false, 16, 0}},
-    {OPENING, .item = 0, .flags = 8, .own = {true, 16, 0}},
-    {OPENING, .item = 0, .flags = 8, .own = {false, 1, 10}},
-    {OPENING, .item = 0, .flags = 8, .own = {true, 1, 10}},
-    {OPENING, .item = 0, .flags = 8, .own = {false, 15, 1000000000000000}},
-    {OPENING, .item = 0, .flags = 8, .own = {true, 15, 1000000000000000}},
-    {OPENING, .item = 0, .flags = 8, .own = {false, 0x80, 0}}, /* count bytes are no counts */
-    {OPENING, .item = 0, .flags = 8, .own = {true, 0x80, 0}},
-    {OPENING, .item = 0, .flags = 8, .own = {false, 0x87, 5550100}},
-    {OPENING, .item = 0, .flags = 8, .own = {true, 0x87, 5550100}},
-    {OPENING, .item = 255, .flags = 255, .own = {false, 255, UINT64_MAX}},
-    {OPENING, .item = 255, .flags = 255, .own = {true, 255, UINT64_MAX}},
+    {OPENING, .item = 2, .flags = 8, .own = HOME, .bad = 1},
+    {OPENING, .item = 0, .flags = 32, .own = HOME, .bad = 2},
+    {OPENING, .item = 0, .flags = 32, .bad = 2},
+    {OPENING, .item = 0, .flags = 8, .bad = 3},
+    {OPENING, .item = 0, .flags = 8, .own = NO_DIGITS_ABROAD, .bad = 3},
+    {OPENING, .item = 0, .flags = 8, .own = {false, 16, 0}, .bad = 3},
+    {OPENING, .item = 0, .flags = 8, .own = {true, 16, 0}, .bad = 3},
+    {OPENING, .item = 0, .flags = 8, .own = {false, 1, 10}, .bad = 3},
+    {OPENING, .item = 0, .flags = 8, .own = {true, 1, 10}, .bad = 3},
+    {OPENING, .item = 0, .flags = 8, .own = {false, 15, 1000000000000000}, .bad = 3},
+    {OPENING, .item = 0, .flags = 8, .own = {true, 15, 1000000000000000}, .bad = 3},
+    {OPENING, .item = 0, .flags = 8, .own = {false, 0x80, 0}, .bad = 3}, /* count bytes are no counts */
+    {OPENING, .item = 0, .flags = 8, .own = {true, 0x80, 0}, .bad = 3},
+    {OPENING, .item = 0, .flags = 8, .own = {false, 0x87, 5550100}, .bad = 3},
+    {OPENING, .item = 0, .flags = 8, .own = {true, 0x87, 5550100}, .bad = 3},
+    {OPENING, .item = 255, .flags = 255, .own = {false, 255, UINT64_MAX}, .bad = 1},
+    {OPENING, .item = 255, .flags = 255, .own = {true, 255, UINT64_MAX}, .bad = 1},
 
     {REQUEST, .item = 0, .called = {false, 1, 0}, .record = {12, 0, 2, 0, 0, 1}},
     {REQUEST, .item = 0, .called = {true, 1, 0}, .record = {12, 0, 2, 0, 0, 0x81}},
     {REQUEST, .item = 1, .called = ROOM_23, .record = {12, 0, 2, 0, 1, 7, 0x2B, 0xB0, 0x54}},
     {REQUEST, .item = 2, .record = {12, 0, 2, 0, 2}},
     {REQUEST, .item = 3, .record = {12, 0, 2, 0, 3}},
-    {REQUEST, .item = 4},
-    {REQUEST, .item = 1},
-    {REQUEST, .item = 1, .called = NO_DIGITS_ABROAD},
-    {REQUEST, .item = 1, .called = {false, 0x87, 5550123}},
-    {REQUEST, .item = 2, .called = ROOM_23},
-    {REQUEST, .item = 2, .called = NO_DIGITS_ABROAD},
-    {REQUEST, .item = 2, .called = {false, 0x80, 0}},
-    {REQUEST, .item = 3, .called = NO_DIGITS_ABROAD},
-    {REQUEST, .item = 3, .called = {false, 0, 1}},
-    {REQUEST, .item = 3, .called = {false, 1, 0}},
+    {REQUEST, .item = 4, .bad = 1},
+    {REQUEST, .item = 1, .bad = 2},
+    {REQUEST, .item = 1, .called = NO_DIGITS_ABROAD, .bad = 2},
+    {REQUEST, .item = 1, .called = {false, 0x87, 5550123}, .bad = 2},
+    {REQUEST, .item = 2, .called = ROOM_23, .bad = 2},
+    {REQUEST, .item = 2, .called = NO_DIGITS_ABROAD, .bad = 2},
+    {REQUEST, .item = 2, .called = {false, 0x80, 0}, .bad = 2},
+    {REQUEST, .item = 3, .called = NO_DIGITS_ABROAD, .bad = 2},
+    {REQUEST, .item = 3, .called = {false, 0, 1}, .bad = 2},
+    {REQUEST, .item = 3, .called = {false, 1, 0}, .bad = 2},
 
     {MESSAGE, .item = 2, .component = 2, .detail = 1, .record = {7, 0, 3, 0, 2, 0, 2, 1, 0}},
     {MESSAGE, .item = 4, .cause = 127, .component = 3, .detail = 255, .record = {7, 0, 3, 0, 4, 127, 3, 255, 0}},
@@ -170,42 +172,51 @@ static const struct event events[] = {
      .record = {29, 0, 3, 0, 5, 0, 2, 3, 127, HOME_BYTES, MOST_BYTES, 40}},
     {MESSAGE, .item = 5, .component = 2, .detail = 3, .parts = 127, .calling = ABROAD, .called = MOST_ABROAD, .seconds = 40,
      .record = {29, 0, 3, 0, 5, 0, 2, 3, 127, ABROAD_BYTES, MOST_ABROAD_BYTES, 40}},
-    {MESSAGE, .item = 0},
-    {MESSAGE, .item = 6},
-    {MESSAGE, .item = 5, .cause = 128},
-    {MESSAGE, .item = 5, .component = 5},
-    {MESSAGE, .item = 5, .component = 255, .detail = 1},
-    {MESSAGE, .item = 5, .component = 0, .detail = 1},
-    {MESSAGE, .item = 5, .component = 1, .detail = 0},
-    {MESSAGE, .item = 5, .component = 2, .detail = 4},
-    {MESSAGE, .item = 5, .component = 4, .detail = 1},
-    {MESSAGE, .item = 5, .parts = 4},
-    {MESSAGE, .item = 5, .parts = 128},
-    {MESSAGE, .item = 5, .parts = 16},
-    {MESSAGE, .item = 5, .parts = 16, .calling = NO_DIGITS_ABROAD},
-    {MESSAGE, .item = 5, .parts = 16, .calling = {false, 0x80, 0}},
-    {MESSAGE, .item = 5, .parts = 32, .called = NO_DIGITS_ABROAD},
-    {MESSAGE, .item = 5, .parts = 32, .called = {true, 0x8F, 0}},
-    {MESSAGE, .item = 5, .calling = NO_DIGITS_ABROAD},
-    {MESSAGE, .item = 5, .called = NO_DIGITS_ABROAD},
-    {MESSAGE, .item = 5, .parts = 32, .called = {false, 15, 1000000000000000}},
-    {MESSAGE, .item = 5, .parts = 32, .calling = HOME, .called = HOME},
-    {MESSAGE, .item = 5, .parts = 16, .calling = HOME, .called = {false, 0, 1}},
-    {MESSAGE, .item = 5, .parts = 48, .calling = HOME, .called = HOME, .seconds = 1},
+    {MESSAGE, .item = 0, .bad = 1},
+    {MESSAGE, .item = 6, .bad = 1},
+    {MESSAGE, .item = 5, .cause = 128, .bad = 2},
+    {MESSAGE, .item = 5, .component = 5, .bad = 3},
+    {MESSAGE, .item = 5, .component = 255, .detail = 1, .bad = 3},
+    {MESSAGE, .item = 5, .component = 0, .detail = 1, .bad = 4},
+    {MESSAGE, .item = 5, .component = 1, .detail = 0, .bad = 4},
+    {MESSAGE, .item = 5, .component = 2, .detail = 4, .bad = 4},
+    {MESSAGE, .item = 5, .component = 4, .detail = 1, .bad = 4},
+    {MESSAGE, .item = 5, .parts = 4, .bad = 5},
+    {MESSAGE, .item = 5, .parts = 128, .bad = 5},
+    {MESSAGE, .item = 5, .parts = 16, .bad = 6},
+    {MESSAGE, .item = 5, .parts = 16, .calling = NO_DIGITS_ABROAD, .bad = 6},
+    {MESSAGE, .item = 5, .parts = 16, .calling = {false, 0x80, 0}, .bad = 6},
+    {MESSAGE, .item = 5, .parts = 32, .called = NO_DIGITS_ABROAD, .bad = 6},
+    {MESSAGE, .item = 5, .parts = 32, .called = {true, 0x8F, 0}, .bad = 6},
+    {MESSAGE, .item = 5, .calling = NO_DIGITS_ABROAD, .bad = 5},
+    {MESSAGE, .item = 5, .called = NO_DIGITS_ABROAD, .bad = 5},
+    {MESSAGE, .item = 5, .parts = 32, .called = {false, 15, 1000000000000000}, .bad = 6},
+    {MESSAGE, .item = 5, .parts = 32, .calling = HOME, .called = HOME, .bad = 5},
+    {MESSAGE, .item = 5, .parts = 16, .calling = HOME, .called = {false, 0, 1}, .bad = 5},
+    {MESSAGE, .item = 5, .parts = 48, .calling = HOME, .called = HOME, .seconds = 1, .bad = 5},
+    {MESSAGE, .item = 5, .parts = 48, .calling = HOME, .called = {false, 16, 0}, .bad = 7},
+    {MESSAGE, .item = 5, .parts = 48, .calling = {false, 16, 0}, .called = {false, 16, 0}, .bad = 6},
+    {MESSAGE, .item = 5, .parts = 32, .calling = HOME, .called = {false, 16, 0}, .bad = 5}, /* not named, before what is */
+    {MESSAGE, .item = 5, .parts = 16, .calling = {false, 16, 0}, .called = HOME, .bad = 5},
+    {MESSAGE, .item = 6, .cause = 128, .component = 5, .detail = 9, .parts = 132, .calling = HOME, .bad = 1},
+    {MESSAGE, .item = 5, .cause = 128, .component = 5, .detail = 9, .parts = 132, .calling = HOME, .bad = 2},
+    {MESSAGE, .item = 5, .cause = 0, .component = 5, .detail = 9, .parts = 132, .calling = HOME, .bad = 3},
+    {MESSAGE, .item = 5, .cause = 0, .component = 1, .detail = 9, .parts = 132, .calling = HOME, .bad = 4},
 
     {ACCESS, .item = 1, .record = {4, 0, 4, 0, 1, 0}},
     {ACCESS, .item = 2, .detail = 255, .record = {4, 0, 4, 0, 2, 255}},
     {ACCESS, .item = 5, .record = {4, 0, 4, 0, 5, 0}},
-    {ACCESS, .item = 0},
-    {ACCESS, .item = 6},
-    {ACCESS, .item = 4, .detail = 1},
+    {ACCESS, .item = 0, .bad = 1},
+    {ACCESS, .item = 6, .bad = 1},
+    {ACCESS, .item = 4, .detail = 1, .bad = 2},
+    {ACCESS, .item = 6, .detail = 1, .bad = 1},
 
     {EXPIRY, .record = {2, 0, 5, 0}},
 
     {TIME, .seconds = 0, .record = {6, 0, 6, 0, 0, 0, 0, 0}},
     {TIME, .seconds = 86400, .record = {6, 0, 6, 0, 0x80, 0x51, 1, 0}},
-    {TIME, .seconds = 86401},
-    {TIME, .seconds = UINT32_MAX},
+    {TIME, .seconds = 86401, .bad = 1},
+    {TIME, .seconds = UINT32_MAX, .bad = 1},
 };
 
 enum { EVENTS = sizeof events / sizeof events[0] };
@@ -235,9 +246,9 @@ static uint32_t write_event(const struct event *e, uint8_t *out, size_t room)
 /* An event in a room: the number, the record or nothing of it, and what lies past it and outside; twice alike. */
 static int writes(const struct event *event, size_t room)
 {
-    int good = event->record[0] != 0;
+    int good = event->bad == 0;
     size_t length = good ? rev_record_length(event->record) : 0, end = GUARD + room + GUARD;
-    uint32_t want = !good ? REV_BAD_FIELD : length <= room ? REV_WRITTEN : REV_TOO_LONG;
+    uint32_t want = !good ? REV_BAD_FIELD + 256u * event->bad : length <= room ? REV_WRITTEN : REV_TOO_LONG;
     size_t written = want == REV_WRITTEN ? length : 0;
 
     buffers++;
@@ -415,11 +426,18 @@ static const struct carried written_parameters[] = {
     {2, {1, 0}, 5, NO_MORE, {0}},
     {10, {1, 0, 7, 0, 3, 0, MESSAGE_KIND, CAUSE, 3, 5}, 5, NO_MORE, {0}},
     {6, {1, 0, 2, 0, 9, 0}, 7, NO_MORE, {0}},
-    {6, {1, 0, 2, 0, 5, 0}, REV_BAD_FIELD, NO_MORE, {0}},                   /* another kind of record */
-    {11, {1, 0, RECORD_HEAD(7), 3, 13, 0}, REV_BAD_FIELD, NO_MORE, {0}},    /* no error of the module */
-    {11, {0, 1, RECORD_HEAD(7), 3, 5, 0}, REV_BAD_FIELD, NO_MORE, {0}},     /* no identifier */
-    {11, {1, 0, RECORD_HEAD(7), 0, 0, 0}, REV_BAD_FIELD, NO_MORE, {0}},     /* no component */
-    {15, {1, 0, RECORD_HEAD(11), 2, 3, 64, 0, 0x10, 0x0E, 0}, REV_BAD_FIELD, NO_MORE, {0}}, /* 921,600 s */
+    {6, {1, 0, 2, 0, 5, 0}, REV_BAD_FIELD, NO_MORE, {0}}, /* another kind of record: no field of it is to blame */
+    {11, {1, 0, RECORD_HEAD(7), 3, 13, 0}, REV_BAD_FIELD + 256 * 4, NO_MORE, {0}}, /* no error of the module */
+    {11, {0, 1, RECORD_HEAD(7), 3, 5, 0}, REV_BAD_FIELD + 256 * 6, NO_MORE, {0}}, /* no identifier */
+    {11, {1, 0, RECORD_HEAD(7), 0, 0, 0}, REV_BAD_FIELD + 256 * 3, NO_MORE, {0}}, /* no component */
+    {15, {1, 0, RECORD_HEAD(11), 2, 3, 64, 0, 0x10, 0x0E, 0}, REV_BAD_FIELD + 256 * 6, NO_MORE, {0}}, /* 921,600 s */
+    {11, {1, 0, 7, 0, 3, 0, 6, 128, 0, 9, 128}, REV_BAD_FIELD + 256 * 1, NO_MORE, {0}},
+    {11, {1, 0, 7, 0, 3, 0, 5, 128, 0, 9, 128}, REV_BAD_FIELD + 256 * 2, NO_MORE, {0}},
+    {11, {1, 0, RECORD_HEAD(7), 1, 4, 128}, REV_BAD_FIELD + 256 * 4, NO_MORE, {0}},
+    {11, {1, 1, RECORD_HEAD(7), 1, 3, 2}, REV_BAD_FIELD + 256 * 5, NO_MORE, {0}}, /* a part without a place */
+    {20, {1, 1, RECORD_HEAD(16), 1, 3, 32, 16}, REV_BAD_FIELD + 256 * 6, NO_MORE, {0}}, /* sixteen digits */
+    {24, {1, 0, RECORD_HEAD(20), 2, 3, 80, 1, 0, 0, 0, 0, 0, 0, 0, 0, 0, 0x10, 0x0E, 0}, REV_BAD_FIELD + 256 * 7, NO_MORE, {0}},
+    {24, {1, 1, RECORD_HEAD(20), 2, 3, 80, 1}, REV_BAD_FIELD + 256 * 8, NO_MORE, {0}}, /* the identifier is after them */
 };
 
 typedef uint32_t carry(const uint8_t *given, size_t given_len, uint8_t *out, size_t out_len);
@@ -463,8 +481,8 @@ static int parameters_keep(uint8_t *pages)
             }
     }
     /* message and cause are judged last of all but the room */
-    if (rev_read_parameter(read_parameters[1].given, read_parameters[1].given_len, 6, 0, guarded, 0) != REV_BAD_FIELD ||
-        rev_read_parameter(read_parameters[1].given, read_parameters[1].given_len, 5, 128, guarded, 0) != REV_BAD_FIELD ||
+    if (rev_read_parameter(read_parameters[1].given, read_parameters[1].given_len, 6, 128, guarded, 0) != REV_BAD_FIELD + 256 * 1 ||
+        rev_read_parameter(read_parameters[1].given, read_parameters[1].given_len, 5, 128, guarded, 0) != REV_BAD_FIELD + 256 * 2 ||
         rev_read_parameter(read_parameters[3].given, read_parameters[3].given_len, 6, 0, guarded, 0) != REV_CUT_SHORT) {
         printf("message and cause are not judged as promised\n");
         return 0;

@@ -30,6 +30,10 @@ static int add(struct journal *journal, uint32_t given, const uint8_t *record)
 {
     size_t length;
 
+    if (REV_NUMBER(given) == REV_BAD_FIELD) {
+        fprintf(stderr, "field %u of a record is out of its range\n", (unsigned)REV_REST(given));
+        return 0;
+    }
     if (REV_NUMBER(given) != REV_WRITTEN) {
         fprintf(stderr, "a record is refused with %u\n", (unsigned)REV_NUMBER(given));
         return 0;

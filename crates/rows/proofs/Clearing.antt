@@ -38,10 +38,10 @@ use Rattle.rows.specs.declared.RevState.the-variants.{Idle, WaitSetup, W
 use Rattle.rows.specs.declared.RevState.the-variants.{WaitActiveConf, WaitCalled}
 use Rattle.rows.specs.declared.Role.{Role}
 use Rattle.rows.specs.declared.Role.the-variants.{Originating, Destination}
-use Rattle.rows.proofs.Answers.{planFor, row-decides, settled}
+use Rattle.rows.proofs.Answers.{planFor, row-decides, opened-then, has-plan, settled}
 use Rattle.rows.proofs.Found.{implies, so, Test, holds}
 use Rattle.rows.proofs.Placed.{placed}
-use Rattle.rows.proofs.Progress.{valid-place, standing, with-these, a-facility, a-result, reversal-takes-effect}
+use Rattle.rows.proofs.Progress.{valid-place, standing, with-these, a-facility, a-result, effect-opened, reversal-takes-effect}
 use Rattle.rows.proofs.Truth.{differ, left, right}
 
 abbrev isDestination : Role → Bool
@@ -67,7 +67,7 @@ module _ (f : Flags) (a b : Bool) (mt : Meters) (u v w : Number) where
 pub access-clears : (c : Call) (n : ℕ) → validOf c ≡ true → eventOk (FromAccess 4 n) ≡ true → inCall (c .stand .phase) ≡ true →
     Clears (stepOf c (FromAccess 4 n))
 access-clears c n v k i =
-    subst Clears (sym (row-decides c (FromAccess 4 n) v k))
+    subst Clears (sym (row-decides c (FromAccess 4 n) v (opened-then inCall (c .stand .phase) refl i) refl k))
     (cleared-here (c .side .flags) (c .stand .agreed) (c .stand .rest) (c .meters) (c .side .own) (c .side .calling) (c .side .called) n
     (c .side .role) (c .stand .phase) (c .stand .rev) (valid-place c v) i)
 
@@ -125,12 +125,15 @@ ends c p r a b d =
 rel-kind : (k : ℕ) → eqb k 4 ≡ true → isRel (kindOf k) ≡ true
 rel-kind k h = subst (λ (j : ℕ). isRel (kindOf j) ≡ true) (sym (eqb-true k 4 h)) refl
 
+not-one : (n : ℕ) → eqb n 0 ≡ true → eqb n 1 ≡ false
+not-one n h = ap (λ (k : ℕ). eqb k 1) (eqb-true n 0 h)
+
 pub rel-clears : (c : Call) (m : Message) → validOf c ≡ true → eventOk (Received m) ≡ true → inCall (c .stand .phase) ≡ true →
     eqb (m .kind) 4 ≡ true → Clears (stepOf c (Received m))
 rel-clears c m v k i h =
     let z = so _ _ (so _ _ (so _ _ (holds endsAll (λ e t a b. refl) c (Received m)) (valid-place c v)) i) (rel-kind (m .kind) h) in
     let y = right (eqb (planFor c (Received m) .number) 0) _ z in
-    subst Clears (sym (row-decides c (Received m) v k))
+    subst Clears (sym (row-decides c (Received m) v (opened-then inCall (c .stand .phase) refl i) refl k ∙ has-plan c (Received m) (not-one (planFor c (Received m) .number) (left (eqb (planFor c (Received m) .number) 0) _ z))))
     (ends c (planFor c (Received m)) (readOf (Received m)) (left _ _ z)
     (nobody-pays _ (right (eqb (placeIn (standOf (planFor c (Received m) .next) (c .stand) .phase)) 4) _ y)) (top _ (left _ _ y)))
 
@@ -177,7 +180,7 @@ module _ (f : Flags) (b : Bool) (mt : Meters) (u v w : Number) (n : ℕ) where
 pub charged-there : (c : Call) (k n : ℕ) → validOf c ≡ true → eventOk (FromAccess k n) ≡ true → takesEffect c (FromAccess k n) ≡ true →
     stepOf c (FromAccess k n) .call .meters .payer ≡ chargedBy (c .stand .agreed) (c .stand .phase) (c .meters .payer)
 charged-there c k n v o h =
-    ap (λ (x : Outcome). x .call .meters .payer) (row-decides c (FromAccess k n) v o)
+    ap (λ (x : Outcome). x .call .meters .payer) (row-decides c (FromAccess k n) v (effect-opened c (FromAccess k n) h) refl o)
     ∙ charges (c .side .flags) (c .stand .rest) (c .meters) (c .side .own) (c .side .calling) (c .side .called) n (c .side .role) (c .stand .phase)
     (c .stand .rev) (c .stand .agreed) k h
 
@@ -242,7 +245,7 @@ pub charged-by-result : (c : Call) (m : Message) → c .side .role ≡ Destinati
     stepOf c (Received m) .call .meters .payer
     ≡ chargedBy (c .side .flags .transfer && (bitAt 2 (m .parts) && bitAt 4 (m .parts))) Answered (c .meters .payer)
 charged-by-result c m r v o h =
-    let e = row-decides c (Received m) v o in
+    let e = row-decides c (Received m) v (effect-opened c (Received m) h) refl o in
     ap (λ (x : Outcome). x .call .meters .payer) e
     ∙ at-destination (c .side .flags) (c .stand .agreed) (c .stand .rest) (c .meters) (c .side .own) (c .side .calling) (c .side .called) m
     (c .side .role) (c .stand .phase) (c .stand .rev) r h

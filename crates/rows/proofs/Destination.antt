@@ -25,9 +25,9 @@ use Rattle.rows.specs.Read.{bit, lowest, flagsOf, heardOf, kindBy, readO
 use Rattle.rows.specs.Read.{modeBy, extentBy, serviceBy, correctBy}
 use Rattle.rows.specs.Rows
 use Rattle.rows.specs.Rows.{planOf}
-use Rattle.rows.specs.Step.{unopenedCall, takesOf, ifInRange, stepOf}
+use Rattle.rows.specs.Step.{unopenedCall, ifInRange, stepOf}
 use Rattle.rows.specs.Telephone.{absent}
-use Rattle.rows.specs.Valid.{payerThere, messageOk, eventOk}
+use Rattle.rows.specs.Valid.{payerThere, eventOk}
 use Rattle.rows.specs.declared.Call.{Call}
 use Rattle.rows.specs.declared.Component.{Component}
 use Rattle.rows.specs.declared.Component.the-variants.{Absent, Invoke, Result, Error, Reject, Unknown}
@@ -60,7 +60,7 @@ use Rattle.rows.specs.declared.Role.the-variants.{Destination}
 use Rattle.rows.specs.declared.Row.{Row}
 use Rattle.rows.proofs.Found.{split, fork, guarded}
 use Rattle.rows.proofs.Truth.{left, right, neither-left, neither-right}
-use Rattle.rows.proofs.Answers.{settled}
+use Rattle.rows.proofs.Answers.{performed, settled}
 use Rattle.rows.proofs.Stays.{not-callers}
 use Rattle.rows.proofs.Whole.{by-kind}
 
@@ -263,7 +263,7 @@ same-words f (Time s) = refl
 
 -- an event's row keeps the agreement
 abbrev Kept : ℕ → Call → Bool → ℕ → Event → Type 0
-Kept f c w x e = Good f (asksC e) (heardIn f e) c w x e (takesOf c e)
+Kept f c w x e = Good f (asksC e) (heardIn f e) c w x e (performed c e)
 
 opens : (f k h : ℕ) (n : Number) {c : Call} {w : Bool} {x : ℕ} → Agrees f c w x → Kept f c w x (Opening k h n)
 opens f k h n null = search states
@@ -319,7 +319,7 @@ kinds P k l u p q s t false false false h i j =
     let n3 = eqb-false k 3 (neither-right (eqb k 2) _ i) in
     subst (P Fac) (sym (eq-eqb k 5 (omega (arith, eqb-false k 1 h, n2, n3, eqb-false k 4 j)))) t
 
-module _ (f : ℕ) (l : Message) (ok : messageOk l ≡ true) where
+module _ (f : ℕ) (l : Message) (ok : eventOk (Received l) ≡ true) where
   abbrev word : Heard
   word = heardOf (l .component)
 
@@ -444,8 +444,9 @@ takes f (Time s) o y = passes f s y
 
 keeps : (f : ℕ) {c : Call} {w : Bool} {x : ℕ} (e : Event) → Agrees f c w x → Good f (asksC e) (givesTransfer f e) c w x e (stepOf c e)
 keeps f {c} {w} {x} e y =
-    guarded (Good f (asksC e) (givesTransfer f e) c w x e) c e (λ v. y) (λ v. y)
-    (λ v o. subst (λ (g : Bool). Good f (asksC e) g c w x e (takesOf c e)) (same-words f e) (takes f e o y))
+    guarded (Good f (asksC e) (givesTransfer f e) c w x e) c e (λ v. y)
+    (λ v. record { one = y; three = λ k. y; fifteen = y; sixteen = y; seventeen = y; eighteen = y })
+    (λ v o. subst (λ (g : Bool). Good f (asksC e) g c w x e (performed c e)) (same-words f e) (takes f e o y))
 
 -- ---- THE INDUCTION: from a call that agrees, any events lead to one that agrees
 

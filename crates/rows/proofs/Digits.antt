@@ -13,14 +13,16 @@ use Rattle.meters.specs.declared.Metered.{Metered}
 use Rattle.meters.specs.declared.Metered.the-variants.{Done, NoPayer, TooMuch}
 use Rattle.meters.specs.declared.Meters.{Meters}
 use Rattle.rows.specs.History.{run, history}
-use Rattle.rows.specs.Perform.{refusedOf, sideOf, orHeld, settledOf, performIf, performOf, appliesOf}
+use Rattle.rows.specs.Perform.{refusedAt, sideOf, orHeld, settledOf, performIf, performOf, appliesOf}
 use Rattle.rows.specs.Promises.{OtherDigits, the-same, another, sent, Redialled, opening, request, message, access, expiry, time}
 use Rattle.rows.specs.Promises.{AllRedialled, no-more, and-then, holding, Renumbered, renumbered, SameAnswer, numbers}
-use Rattle.rows.specs.Read.{bit, errorOf, kindOf, readOf}
+use Rattle.rows.specs.Find.{rowForOf}
+use Rattle.rows.specs.Read.{bit, errorOf, kindOf, readOf, cueOf}
 use Rattle.rows.specs.Telephone.{national}
-use Rattle.rows.specs.Step.{takesOf, ifInRange, ifCall, stepOf}
-use Rattle.rows.specs.Valid.{tenTo, inRange, numberThere, numberAbsent, numberIf, componentOk, partsOk, eventOk, placedOf, meteredOf}
-use Rattle.rows.specs.Valid.{payingOf, numbersHeld, validOf}
+use Rattle.rows.specs.Step.{ifRow, takesOf, ifInRange, isOpening, isUnopened, ifTimely, ifCall, stepOf}
+use Rattle.rows.specs.Valid.{tenTo, inRange, numberThere, numberAbsent, numberIf, codeOk, itemOk, presentThen, everyOne, firstFalse}
+use Rattle.rows.specs.Valid.{rangesOf, eventOk, badFieldOf, placedOf, meteredOf, payingOf, numbersHeld, validOf}
+use Rattle.rows.specs.Why.{isRow}
 use Rattle.rows.specs.declared.Call.{Call}
 use Rattle.rows.specs.declared.Component.{Component}
 use Rattle.rows.specs.declared.Component.the-variants.{Absent}
@@ -37,6 +39,7 @@ use Rattle.rows.specs.declared.Reading.{Reading}
 use Rattle.rows.specs.declared.Register.{Register}
 use Rattle.rows.specs.declared.Register.the-variants.{AsHeld, FromOpening, CalledNumber, CallingNumber}
 use Rattle.rows.specs.declared.Role.{Role}
+use Rattle.rows.specs.declared.Row.{Row}
 use Rattle.rows.specs.declared.Stand.{Stand}
 use Rattle.rows.proofs.Answers.{planFor}
 use Rattle.rows.proofs.Truth.{both, left, or-true, right}
@@ -87,10 +90,14 @@ held {n} {m} {u} {v} (another p q) d =
 
 -- ---- A row applied to both
 
-refused : (z : ℕ) {c d : Call} → Renumbered c d → SameAnswer (refusedOf z c) (refusedOf z d)
-refused z y =
+pub same-stand : {c d : Call} → Renumbered c d → c .stand ≡ d .stand
+same-stand (renumbered u v w) = refl
+
+refused : (z k : ℕ) {c d : Call} → Renumbered c d → SameAnswer (refusedAt z k c) (refusedAt z k d)
+refused z k y =
     record {
       number = refl;
+      field = refl;
       call = y;
       first = refl;
       second = refl;
@@ -124,6 +131,7 @@ module _ (k : Kind) (i g pt er ca s : ℕ) (x : Component) where
     settles (Done after) p =
         record {
           number = refl;
+          field = refl;
           call = registered (p .register) _ after;
           first = refl;
           second = refl;
@@ -135,13 +143,13 @@ module _ (k : Kind) (i g pt er ca s : ℕ) (x : Component) where
           parts = refl;
           duration = refl;
         }
-    settles NoPayer p = refused 10 (renumbered a b c)
-    settles TooMuch p = refused 2 (renumbered a b c)
+    settles NoPayer p = refused 10 0 (renumbered a b c)
+    settles TooMuch p = refused 2 0 (renumbered a b c)
 
     performs : (y : Bool) (p : Plan) →
         SameAnswer (performIf y (holding r f at m u v w) p (reading n o q)) (performIf y (holding r f at m u′ v′ w′) p (reading n′ o′ q′))
     performs true p = settles (changeOf (p .change) m s) p
-    performs false p = refused (p .number) (renumbered a b c)
+    performs false p = refused (p .number) 0 (renumbered a b c)
 
 -- ---- A step of both
 
@@ -152,47 +160,93 @@ valid-alike (renumbered {r} {f} {at} {m} {u} {u′} {v} {v′} {w} {w′} a b c)
     ∙ ap (λ (x : Bool). inRange u′ && (x && inRange w)) (ranged b)
     ∙ ap (λ (x : Bool). inRange u′ && (inRange v′ && x)) (ranged c))
 
-abbrev messageBy : ℕ → ℕ → Component → ℕ → ℕ → Bool → Bool → Bool
-messageBy k u x p s calling called =
-    (leb 1 k && leb k 5) && (leb u 127 && (componentOk x && (partsOk p && (calling && (called && (bit 64 p || eqb s 0))))))
+-- a message's fields, by what is asked of its numbers: absent, there
+abbrev messageBy : ℕ → ℕ → Component → ℕ → ℕ → Bool → Bool → Bool → Bool → List Bool
+messageBy k u x p s calling called calls answers =
+    (leb 1 k && leb k 5) ∷ leb u 127 ∷ codeOk x ∷ itemOk x
+    ∷ ((leb p 127 && (bit 2 p || not (bit 4 p))) && ((bit 16 p || calling) && ((bit 32 p || called) && (bit 64 p || eqb s 0))))
+    ∷ presentThen (bit 16 p) calls (presentThen (bit 32 p) answers (presentThen (bit 64 p) true []))
 
-ok-alike : {e e′ : Event} → Redialled e e′ → eventOk e ≡ eventOk e′
-ok-alike (opening {r} {f} d) = ap (λ (x : Bool). leb r 1 && (leb f 31 && x)) (there d)
-ok-alike (request {q} d) = ap (λ (x : Bool). leb q 3 && x) (asked (leb q 1) d)
-ok-alike (message {k} {u} {p} {s} {x} {n} {n′} {m} {m′} d e) =
-    ap (λ (b : Bool). messageBy k u x p s b (numberIf (bit 32 p) m)) (asked (bit 16 p) d) ∙ ap (messageBy k u x p s (numberIf (bit 16 p) n′)) (asked (bit 32 p) e)
-ok-alike access = refl
-ok-alike expiry = refl
-ok-alike time = refl
+ranges-alike : {e e′ : Event} → Redialled e e′ → rangesOf e ≡ rangesOf e′
+ranges-alike (opening {r} {f} d) = ap (λ (x : Bool). leb r 1 ∷ leb f 31 ∷ x ∷ []) (there d)
+ranges-alike (request {q} d) = ap (λ (x : Bool). leb q 3 ∷ x ∷ []) (asked (leb q 1) d)
+ranges-alike (message {k} {u} {p} {s} {x} {n} {n′} {m} {m′} d e) =
+    ap (λ (b : Bool). messageBy k u x p s b (numberAbsent m) (numberThere n) (numberThere m)) (absence d)
+    ∙ ap (λ (b : Bool). messageBy k u x p s (numberAbsent n′) b (numberThere n) (numberThere m)) (absence e)
+    ∙ ap (λ (b : Bool). messageBy k u x p s (numberAbsent n′) (numberAbsent m′) b (numberThere m)) (there d)
+    ∙ ap (λ (b : Bool). messageBy k u x p s (numberAbsent n′) (numberAbsent m′) (numberThere n′) b) (there e)
+ranges-alike access = refl
+ranges-alike expiry = refl
+ranges-alike time = refl
+
+opening-alike : {e e′ : Event} → Redialled e e′ → isOpening e ≡ isOpening e′
+opening-alike (opening d) = refl
+opening-alike (request d) = refl
+opening-alike (message d e) = refl
+opening-alike access = refl
+opening-alike expiry = refl
+opening-alike time = refl
+
+-- a row is found for both, or for neither
+by-row : (b : Bool) (x : Row) {c d : Call} (r r′ : Reading) → SameAnswer (ifRow true x c r) (ifRow true x d r′) →
+    SameAnswer (ifRow false x c r) (ifRow false x d r′) → SameAnswer (ifRow b x c r) (ifRow b x d r′)
+by-row true x r r′ h i = h
+by-row false x r r′ h i = i
+
+abbrev rowFor : Call → Event → Row
+rowFor c e = rowForOf (c .side .role) (c .stand .phase) (c .stand .rev) (cueOf (readOf e))
 
 -- the same row is found and planned for both: neither looks at a number
 takes-alike : {c d : Call} {e e′ : Event} → Renumbered c d → Redialled e e′ → SameAnswer (takesOf c e) (takesOf d e′)
-takes-alike {c} {d} {e} (renumbered {r} {f} {at} {m} u v w) (opening {r = k} {f = g} n) =
-    performs Opens k g 0 0 0 0 (Absent 0) r f at m u v w n the-same the-same (appliesOf (planFor c e .number)) (planFor c e)
-takes-alike {c} {d} {e} (renumbered {r} {f} {at} {m} u v w) (request {q = q} n) =
-    performs Asks q 0 0 0 0 0 (Absent 0) r f at m u v w the-same the-same n (appliesOf (planFor c e .number)) (planFor c e)
-takes-alike {c} {d} {e} (renumbered {r} {f} {at} {m} u v w) (message {k = k} {u = z} {p = p} {s = s} {x = x} n o) =
-    performs (kindOf k) 0 0 p (errorOf x) z s x r f at m u v w the-same n o (appliesOf (planFor c e .number)) (planFor c e)
-takes-alike {c} {d} {e} (renumbered {r} {f} {at} {m} u v w) (access {a = a} {n = n}) =
-    performs Tells a 0 0 n 16 0 (Absent 0) r f at m u v w the-same the-same the-same (appliesOf (planFor c e .number)) (planFor c e)
-takes-alike {c} {d} {e} (renumbered {r} {f} {at} {m} u v w) expiry =
-    performs Expires 0 0 0 0 0 0 (Absent 0) r f at m u v w the-same the-same the-same (appliesOf (planFor c e .number)) (planFor c e)
-takes-alike {c} {d} {e} (renumbered {r} {f} {at} {m} u v w) (time {s = s}) =
-    performs Passes 0 0 0 0 0 s (Absent 0) r f at m u v w the-same the-same the-same (appliesOf (planFor c e .number)) (planFor c e)
+takes-alike {c} {d} {e} {e′} (renumbered {r} {f} {at} {m} u v w) (opening {r = k} {f = g} n) =
+    by-row (isRow (rowFor c e)) (rowFor c e) (readOf e) (readOf e′)
+    (performs Opens k g 0 0 0 0 (Absent 0) r f at m u v w n the-same the-same (appliesOf (planFor c e .number)) (planFor c e))
+    (refused _ 0 (renumbered u v w))
+takes-alike {c} {d} {e} {e′} (renumbered {r} {f} {at} {m} u v w) (request {q = q} n) =
+    by-row (isRow (rowFor c e)) (rowFor c e) (readOf e) (readOf e′)
+    (performs Asks q 0 0 0 0 0 (Absent 0) r f at m u v w the-same the-same n (appliesOf (planFor c e .number)) (planFor c e))
+    (refused _ 0 (renumbered u v w))
+takes-alike {c} {d} {e} {e′} (renumbered {r} {f} {at} {m} u v w) (message {k = k} {u = z} {p = p} {s = s} {x = x} n o) =
+    by-row (isRow (rowFor c e)) (rowFor c e) (readOf e) (readOf e′)
+    (performs (kindOf k) 0 0 p (errorOf x) z s x r f at m u v w the-same n o (appliesOf (planFor c e .number)) (planFor c e))
+    (refused _ 0 (renumbered u v w))
+takes-alike {c} {d} {e} {e′} (renumbered {r} {f} {at} {m} u v w) (access {a = a} {n = n}) =
+    by-row (isRow (rowFor c e)) (rowFor c e) (readOf e) (readOf e′)
+    (performs Tells a 0 0 n 16 0 (Absent 0) r f at m u v w the-same the-same the-same (appliesOf (planFor c e .number)) (planFor c e))
+    (refused _ 0 (renumbered u v w))
+takes-alike {c} {d} {e} {e′} (renumbered {r} {f} {at} {m} u v w) expiry =
+    by-row (isRow (rowFor c e)) (rowFor c e) (readOf e) (readOf e′)
+    (performs Expires 0 0 0 0 0 0 (Absent 0) r f at m u v w the-same the-same the-same (appliesOf (planFor c e .number)) (planFor c e))
+    (refused _ 0 (renumbered u v w))
+takes-alike {c} {d} {e} {e′} (renumbered {r} {f} {at} {m} u v w) (time {s = s}) =
+    by-row (isRow (rowFor c e)) (rowFor c e) (readOf e) (readOf e′)
+    (performs Passes 0 0 0 0 0 s (Absent 0) r f at m u v w the-same the-same the-same (appliesOf (planFor c e .number)) (planFor c e))
+    (refused _ 0 (renumbered u v w))
 
 module _ {c d : Call} {e e′ : Event} (y : Renumbered c d) (z : Redialled e e′) where
   in-range-alike : (b : Bool) → SameAnswer (ifInRange b c e) (ifInRange b d e′)
   in-range-alike true = takes-alike y z
-  in-range-alike false = refused 3 y
+  in-range-alike false = subst (λ (k : ℕ). SameAnswer (refusedAt 3 (badFieldOf e) c) (refusedAt 3 k d)) (ap (firstFalse 1) (ranges-alike z)) (refused 3 _ y)
 
-  call-alike : (b : Bool) → SameAnswer (ifInRange (eventOk e) c e) (ifInRange (eventOk e′) d e′) → SameAnswer (ifCall b c e) (ifCall b d e′)
-  call-alike true h = h
-  call-alike false h = refused 9 y
+  both-in-range : SameAnswer (ifInRange (eventOk e) c e) (ifInRange (eventOk e′) d e′)
+  both-in-range =
+      subst (λ (b : Bool). SameAnswer (ifInRange (eventOk e) c e) (ifInRange b d e′)) (ap everyOne (ranges-alike z)) (in-range-alike (eventOk e))
+
+  timely-alike : (a b : Bool) → SameAnswer (ifTimely a b c e) (ifTimely a b d e′)
+  timely-alike true true = both-in-range
+  timely-alike true false = refused 17 0 y
+  timely-alike false true = refused 18 0 y
+  timely-alike false false = both-in-range
+
+  call-alike : (b : Bool) → SameAnswer (ifCall b c e) (ifCall b d e′)
+  call-alike true =
+      subst (λ (b : Bool). SameAnswer (ifCall true c e) (ifTimely (isUnopened (d .stand .phase)) b d e′)) (opening-alike z)
+      (subst (λ (p : Stand). SameAnswer (ifCall true c e) (ifTimely (isUnopened (p .phase)) (isOpening e) d e′)) (same-stand y)
+      (timely-alike (isUnopened (c .stand .phase)) (isOpening e)))
+  call-alike false = refused 9 0 y
 
   pub step-alike : SameAnswer (stepOf c e) (stepOf d e′)
-  step-alike =
-      subst (λ (b : Bool). SameAnswer (stepOf c e) (ifCall b d e′)) (valid-alike y)
-      (call-alike (validOf c) (subst (λ (b : Bool). SameAnswer (ifInRange (eventOk e) c e) (ifInRange b d e′)) (ok-alike z) (in-range-alike (eventOk e))))
+  step-alike = subst (λ (b : Bool). SameAnswer (stepOf c e) (ifCall b d e′)) (valid-alike y) (call-alike (validOf c))
 
 -- ---- Any history
 
@@ -205,9 +259,6 @@ numbers-alike y no-more = refl
 numbers-alike {c} {d} y (and-then {e = e} {e′ = e′} {es = es} {es′ = es′} z zs) =
     ap (λ (n : ℕ). n ∷ numbers (history (stepOf c e .call) es)) (step-alike y z .number)
     ∙ ap (λ (ns : List ℕ). stepOf d e′ .number ∷ ns) (numbers-alike (step-alike y z .call) zs)
-
-pub same-stand : {c d : Call} → Renumbered c d → c .stand ≡ d .stand
-same-stand (renumbered u v w) = refl
 
 pub same-meters : {c d : Call} → Renumbered c d → c .meters ≡ d .meters
 same-meters (renumbered u v w) = refl

@@ -14,12 +14,13 @@ use Rattle.rows.specs.Find.{when, unopenedOf, originatingNullOf, origina
 use Rattle.rows.specs.Find.{originatingAnsweredIdleOf, waitActiveOf, activeOf, destinationNullOf, destinationSetupIdleOf}
 use Rattle.rows.specs.Find.{waitSetupConfOf, setupWaitCalledOf, destinationWaitAnswerOf, destinationAnsweredIdleOf, waitActiveConfOf}
 use Rattle.rows.specs.Find.{answeredWaitCalledOf, rowForOf}
-use Rattle.rows.specs.Perform.{refusedOf, followsOf, performIf}
+use Rattle.rows.specs.Perform.{refusedAt, refusedOf, followsOf, performIf}
 use Rattle.rows.specs.Read.{readOf, cueOf, termsOf}
 use Rattle.rows.specs.Rows
 use Rattle.rows.specs.Rows.{planOf}
-use Rattle.rows.specs.Step.{takesOf, ifInRange, ifCall, stepOf}
+use Rattle.rows.specs.Step.{isOpening, isUnopened, ifCall, stepOf}
 use Rattle.rows.specs.Valid.{placedOf, validOf, eventOk}
+use Rattle.rows.specs.Why.{isRow}
 use Rattle.rows.specs.declared.Call.{Call}
 use Rattle.rows.specs.declared.Correctness.{Correctness}
 use Rattle.rows.specs.declared.Correctness.the-variants.{Correct, Incorrect}
@@ -57,7 +58,7 @@ use Rattle.rows.specs.declared.Service.{Service}
 use Rattle.rows.specs.declared.Service.the-variants.{OnRequest, Unconditional}
 use Rattle.rows.specs.declared.Stand.{Stand}
 use Rattle.rows.specs.declared.Terms.{Terms}
-use Rattle.rows.proofs.Answers.{planFor, settled}
+use Rattle.rows.proofs.Answers.{planFor, performed, settled, Refusing, if-timely}
 use Rattle.rows.proofs.Truth.{left, right}
 
 -- if a, then b
@@ -451,6 +452,18 @@ found f h r now e t =
     plans (f r now (e .kind)) t (rowForOf r (now .phase) (now .rev) e) .law
     (walk (rowTest f t r now) e r (now .phase) (now .rev) .law k)
 
+-- a plan that has the number 1 is no row's
+abbrev oneForNone : Terms → Row → Bool
+oneForNone t x = implies (isRow x) (plans (λ p. not (eqb (p .number) 1)) t x .test)
+
+pub one-for-none : (r : Role) (p : Phase) (s : RevState) (e : Cue) (t : Terms) → isRow (rowForOf r p s e) ≡ true →
+    eqb (planOf (rowForOf r p s e) t .number) 1 ≡ false
+one-for-none r p s e t h =
+    let k = rev (λ s′. walk (λ k. oneForNone t) e r p s′ .test)
+    (phase (λ p′. everyRev (λ s′. walk (λ k. oneForNone t) e r p′ s′ .test))
+    (role (λ r′. everyPhase (λ p′. everyRev (λ s′. walk (λ k. oneForNone t) e r′ p′ s′ .test))) refl r) p) s in
+    not-true _ (plans (λ x. not (eqb (x .number) 1)) t (rowForOf r p s e) .law (so _ _ (walk (λ k. oneForNone t) e r p s .law k) h))
+
 -- a test of the plan that one event finds, at every place that 01 allows
 abbrev pub wherever : (Role → Phase → RevState → Plan → Bool) → Cue → Terms → Bool
 wherever g e t =
@@ -482,28 +495,34 @@ pub record Applied (c : Call) (e : Event) (n : Meters) : Type 0 where
 abbrev unlikeNine : Test
 unlikeNine r now k p = not (eqb (p .number) 9)
 
--- 9 and 3 are refusals; else the row decides
-module _ (P : Outcome → Type 0) (c : Call) (e : Event) (nine : validOf c ≡ false → P (refusedOf 9 c))
-    (three : validOf c ≡ true → P (refusedOf 3 c)) (takes : validOf c ≡ true → eventOk e ≡ true → P (takesOf c e)) where
-  in-range : validOf c ≡ true → (b : Bool) → eventOk e ≡ b → P (ifInRange b c e)
-  in-range v true o = takes v o
-  in-range v false o = three v
-
+-- what is judged before the plan is refused; else the plan is carried out
+module _ (P : Outcome → Type 0) (c : Call) (e : Event) (nine : validOf c ≡ false → P (refusedOf 9 c)) (refusing : validOf c ≡ true → Refusing P c)
+    (performs : validOf c ≡ true → eventOk e ≡ true → P (performed c e)) where
   is-call : (b : Bool) → validOf c ≡ b → P (ifCall b c e)
-  is-call true v = in-range v (eventOk e) refl
+  is-call true v = if-timely P c e (refusing v) (isUnopened (c .stand .phase)) (isOpening e) (performs v)
   is-call false v = nine v
 
   pub guarded : P (stepOf c e)
   guarded = is-call (validOf c) refl
 
 module _ (P : Outcome → Type 0) (c : Call) (e : Event) (nine : validOf c ≡ false → P (refusedOf 9 c))
-    (refuses : (n : ℕ) → validOf c ≡ true → eqb n 0 ≡ false → eqb n 9 ≡ false → P (refusedOf n c))
+    (refuses : (n k : ℕ) → validOf c ≡ true → eqb n 0 ≡ false → eqb n 9 ≡ false → P (refusedAt n k c))
     (follows : (n : Meters) → Applied c e n → P (followsOf c (planFor c e) (readOf e) n)) where
   performs : validOf c ≡ true → eventOk e ≡ true → (b : Bool) → eqb (planFor c e .number) 0 ≡ b → P (performIf b c (planFor c e) (readOf e))
   performs v o true r =
       settled P (changeOf (planFor c e .change) (c .meters) (readOf e .seconds)) c (planFor c e) (readOf e)
-      (λ n h. follows n (record { valid = v; ranged = o; row = r; meters = h })) (refuses 10 v refl refl) (refuses 2 v refl refl)
-  performs v o false r = refuses (planFor c e .number) v r (not-true _ (holds unlikeNine (λ e t a b. refl) c e))
+      (λ n h. follows n (record { valid = v; ranged = o; row = r; meters = h })) (refuses 10 0 v refl refl) (refuses 2 0 v refl refl)
+  performs v o false r = refuses (planFor c e .number) 0 v r (not-true _ (holds unlikeNine (λ e t a b. refl) c e))
 
   pub stepped : P (stepOf c e)
-  stepped = guarded P c e nine (λ v. refuses 3 v refl refl) (λ v o. performs v o (eqb (planFor c e .number) 0) refl)
+  stepped =
+      guarded P c e nine
+      (λ v. record {
+        one = refuses 1 0 v refl refl;
+        three = λ k. refuses 3 k v refl refl;
+        fifteen = refuses 15 0 v refl refl;
+        sixteen = refuses 16 0 v refl refl;
+        seventeen = refuses 17 0 v refl refl;
+        eighteen = refuses 18 0 v refl refl;
+      })
+      (λ v o. performs v o (eqb (planFor c e .number) 0) refl)

@@ -1,5 +1,6 @@
 pub mod Answers
 pub mod Below
+pub mod Classes
 pub mod Clearing
 pub mod Contracts
 pub mod Destination
@@ -11,6 +12,7 @@ pub mod Payers
 pub mod Phases
 pub mod Placed
 pub mod Progress
+pub mod Ranges
 pub mod Refusals
 pub mod Requests
 pub mod Reversal

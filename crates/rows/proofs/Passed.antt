@@ -12,13 +12,12 @@ use borrow.Author.Tests.{eq-eqb}
 use Rattle.meters.specs.Meters.{changeOf}
 use Rattle.meters.specs.declared.Metered.{Metered}
 use Rattle.meters.specs.declared.Metered.the-variants.{Done, NoPayer, TooMuch}
-use Rattle.rows.specs.Perform.{refusedOf, ifThere, orHeld, openedOf, standOf, sideOf, settledOf, performIf, appliesOf}
+use Rattle.rows.specs.Perform.{refusedAt, ifThere, orHeld, openedOf, standOf, sideOf, settledOf, performIf, appliesOf}
 use Rattle.rows.specs.Promises.{OneOf, this, later, ownIn, callingIn, calledIn, namedBy, PassedOn, HeldOr, Keeps, OnlyOwn, HoldsOrClears}
-use Rattle.rows.specs.Promises.{isOpening}
 use Rattle.rows.specs.Read.{bit, readOf}
-use Rattle.rows.specs.Step.{ifInRange, ifCall, stepOf}
+use Rattle.rows.specs.Step.{isOpening, stepOf}
 use Rattle.rows.specs.Telephone.{absent}
-use Rattle.rows.specs.Valid.{inRange, numberThere, eventOk, validOf}
+use Rattle.rows.specs.Valid.{inRange, numberThere}
 use Rattle.rows.specs.declared.Call.{Call}
 use Rattle.rows.specs.declared.Event.{Event}
 use Rattle.rows.specs.declared.Event.the-variants.{Opening, Ask, Received, FromAccess, Expiry, Time}
@@ -33,7 +32,7 @@ use Rattle.rows.specs.declared.Reading.{Reading}
 use Rattle.rows.specs.declared.Register.{Register}
 use Rattle.rows.specs.declared.Register.the-variants.{AsHeld, FromOpening, CalledNumber, CallingNumber}
 use Rattle.rows.specs.declared.Side.{Side}
-use Rattle.rows.proofs.Answers.{planFor}
+use Rattle.rows.proofs.Answers.{planFor, refused-or-performed}
 use Rattle.rows.proofs.Found.{Test, implies, so, holds, stepped}
 use Rattle.rows.proofs.Phases.{isOpens, opens}
 use Rattle.rows.proofs.Truth.{differ, right, or-none}
@@ -95,8 +94,8 @@ called-read (Time s) = refl
 -- ---- a step
 
 module _ (c : Call) (e : Event) where
-  refused : (n : ℕ) → PassedOn c e (refusedOf n c)
-  refused n = record { calling-sent = refl; called-sent = refl; own-held = this; calling-held = this; called-held = this }
+  refused : (n k : ℕ) → PassedOn c e (refusedAt n k c)
+  refused n k = record { calling-sent = refl; called-sent = refl; own-held = this; calling-held = this; called-held = this }
 
   settled : (m : Metered) (p : Plan) → PassedOn c e (settledOf m c p (readOf e))
   settled (Done after) p =
@@ -113,23 +112,25 @@ module _ (c : Call) (e : Event) where
             subst (λ (n : Number). OneOf (sideOf (p .register) (c .side) (readOf e) .called) (c .side .called ∷ n ∷ absent ∷ [])) (called-read e)
             (called-held (p .register) (c .side) (readOf e));
       }
-  settled NoPayer p = refused 10
-  settled TooMuch p = refused 2
+  settled NoPayer p = refused 10 0
+  settled TooMuch p = refused 2 0
 
-  performed : (b : Bool) (p : Plan) → PassedOn c e (performIf b c p (readOf e))
-  performed true p = settled (changeOf (p .change) (c .meters) (readOf e .seconds)) p
-  performed false p = refused (p .number)
-
-  in-range : (b : Bool) → PassedOn c e (ifInRange b c e)
-  in-range true = performed (appliesOf (planFor c e .number)) (planFor c e)
-  in-range false = refused 3
-
-  of-a-call : (b : Bool) → PassedOn c e (ifCall b c e)
-  of-a-call true = in-range (eventOk e)
-  of-a-call false = refused 9
+  performs : (b : Bool) (p : Plan) → PassedOn c e (performIf b c p (readOf e))
+  performs true p = settled (changeOf (p .change) (c .meters) (readOf e .seconds)) p
+  performs false p = refused (p .number) 0
 
   pub passed-on : PassedOn c e (stepOf c e)
-  passed-on = of-a-call (validOf c)
+  passed-on =
+      refused-or-performed (PassedOn c e) c e (refused 9 0)
+      (record {
+        one = refused 1 0;
+        three = refused 3;
+        fifteen = refused 15 0;
+        sixteen = refused 16 0;
+        seventeen = refused 17 0;
+        eighteen = refused 18 0;
+      })
+      (performs (appliesOf (planFor c e .number)) (planFor c e))
 
 -- ---- without an opening nothing is forgotten
 
@@ -170,7 +171,7 @@ keeps c e h =
     let x = planFor c e .register in
     let a : not (anew x) ≡ true =
     or-none _ (subst (λ (b : Bool). (not (anew x) || b) ≡ true) (opens e ∙ h) (holds onlyOpenings (λ e t a b. refl) c e)) in
-    stepped (Keeps c e) c e (λ v. stays 9) (λ n v p q. stays n)
+    stepped (Keeps c e) c e (λ v. stays 9 0) (λ n k v p q. stays n k)
     (λ n _. record {
       own = own-kept x (c .side) (readOf e) a;
       calling =
@@ -181,8 +182,8 @@ keeps c e h =
           (called-kept x (c .side) (readOf e) a);
     })
   where
-    stays : (n : ℕ) → Keeps c e (refusedOf n c)
-    stays n = record { own = refl; calling = inl refl; called = inl refl }
+    stays : (n k : ℕ) → Keeps c e (refusedAt n k c)
+    stays n k = record { own = refl; calling = inl refl; called = inl refl }
 
 -- ---- an opening and a caller's request register
 
@@ -246,7 +247,7 @@ not-accepted n f z = differ (sym f ∙ eq-eqb n 0 z)
 pub opening-registers : (c : Call) (r f : ℕ) (n : Number) → stepOf c (Opening r f n) .number ≡ 0 → OnlyOwn n (stepOf c (Opening r f n) .call)
 opening-registers c r f n =
     let e : Event = Opening r f n in
-    stepped (λ (o : Outcome). o .number ≡ 0 → OnlyOwn n (o .call)) c e (λ v. not-accepted 9 refl) (λ k v p q. not-accepted k p)
+    stepped (λ (o : Outcome). o .number ≡ 0 → OnlyOwn n (o .call)) c e (λ v. not-accepted 9 refl) (λ k x v p q. not-accepted k p)
     (λ m w z.
     let g = opened-own (planFor c e .register) (c .side) (readOf e) (so _ _ (holds openingsAnew (λ e t a b. refl) c e) (w .row)) in
     record { own = ap (λ (s : Side). s .own) g; calling = ap (λ (s : Side). s .calling) g; called = ap (λ (s : Side). s .called) g })
@@ -264,7 +265,7 @@ request-registers c q n h l =
     let e : Event = Ask q n in
     let x = planFor c e .register in
     stepped (λ (o : Outcome). o .number ≡ 0 → HoldsOrClears n (o .call .stand .phase) (o .call .side .called)) c e
-    (λ v. not-accepted 9 refl) (λ k v p q. not-accepted k p)
+    (λ v. not-accepted 9 refl) (λ k x v p q. not-accepted k p)
     (λ m w z. holds-or-clears (standOf (planFor c e .next) (c .stand) .phase) (registersCalled x) (sideOf x (c .side) (readOf e) .called) n
     (so _ _ (so _ _ (holds requestsHeld (λ e t a b. refl) c e) (ap isNull h)) (w .row))
     (λ r. asked-held x (c .side) (readOf e) r (right (inRange n) _ l)))

@@ -99,7 +99,7 @@ unless false b h = refl
 -- No step leads to ANSWERED with nobody as payer, unless the call stood so.
 pub paid-stays : (c : Call) (e : Event) → unpaid c ≡ false → unpaid (stepOf c e .call) ≡ false
 paid-stays c e u =
-    stepped (λ (o : Outcome). unpaid (o .call) ≡ false) c e (λ v. u) (λ n v p q. u)
+    stepped (λ (o : Outcome). unpaid (o .call) ≡ false) c e (λ v. u) (λ n k v p q. u)
     (λ n d.
     unless (isAnswered (standOf (planFor c e .next) (c .stand) .phase)) (same Nobody (n .payer)) (λ a.
     either-one (names (planFor c e .change)) (isAnswered (c .stand .phase)) (leaves (planFor c e .change))
@@ -126,7 +126,9 @@ module _ (c : Call) (p : Plan) (r : Reading) where
 -- Where somebody pays, or nobody has to, the number is not 10.
 pub ten-for-the-unpaid : (c : Call) (e : Event) → unpaid c ≡ false → eqb (stepOf c e .number) 10 ≡ false
 ten-for-the-unpaid c e u =
-    guarded (λ (o : Outcome). eqb (o .number) 10 ≡ false) c e (λ v. refl) (λ v. refl) (λ v o. go (appliesOf (planFor c e .number)))
+    guarded (λ (o : Outcome). eqb (o .number) 10 ≡ false) c e (λ v. refl)
+    (λ v. record { one = refl; three = λ k. refl; fifteen = refl; sixteen = refl; seventeen = refl; eighteen = refl })
+    (λ v o. go (appliesOf (planFor c e .number)))
   where
     tested : (implies (timed (planFor c e .change)) (isAnswered (c .stand .phase)) && not (eqb (planFor c e .number) 10)) ≡ true
     tested = holds times (λ e′ t x y. refl) c e

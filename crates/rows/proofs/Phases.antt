@@ -9,7 +9,7 @@ use borrow.Author.Tests.{leb-true}
 use Rattle.rows.specs.Bill.{isAnswered, isRev, resultTo}
 use Rattle.rows.specs.Find.{when, originatingSetupOf, destinationSetupOf, rowForOf}
 use Rattle.rows.specs.Perform.{standOf}
-use Rattle.rows.specs.Promises.{placeIn, isOpening, isWord, bare, answerWith, answersAt, Answering, runs}
+use Rattle.rows.specs.Promises.{placeIn, isWord, bare, answerWith, answersAt, Answering, runs}
 use Rattle.rows.specs.declared.Component.{Component}
 use Rattle.rows.specs.declared.Component.the-variants.{Absent, Invoke, Result, Error, Reject, Unknown}
 use Rattle.rows.specs.declared.Cue.{Cue}
@@ -17,7 +17,7 @@ use Rattle.rows.specs.declared.Message.{Message}
 use Rattle.rows.specs.Read.{kindBy, heardOf, readOf, cueOf, termsOf}
 use Rattle.rows.specs.Rows
 use Rattle.rows.specs.Rows.{planOf}
-use Rattle.rows.specs.Step.{stepOf}
+use Rattle.rows.specs.Step.{isOpening, stepOf}
 use Rattle.rows.specs.declared.Call.{Call}
 use Rattle.rows.specs.declared.Correctness.{Correctness}
 use Rattle.rows.specs.declared.Correctness.the-variants.{Correct, Incorrect}
@@ -143,7 +143,7 @@ forward r now k p = implies (eqb (p .number) 0) (implies (not (isOpens k)) (leb 
 pub never-falls : (c : Call) (e : Event) → isOpening e ≡ false → placeIn (c .stand .phase) ≤ placeIn (stepOf c e .call .stand .phase)
 never-falls c e h =
     stepped (λ (o : Outcome). placeIn (c .stand .phase) ≤ placeIn (o .call .stand .phase)) c e
-    (λ v. omega arith) (λ n v p q. omega arith)
+    (λ v. omega arith) (λ n k v p q. omega arith)
     (λ n d. leb-true _ _ (so _ _ (so _ _ (holds forward (λ e t a b. refl) c e) (d .row)) (ap not (opens e ∙ h))))
 
 top : (p : Phase) → 4 ≤ placeIn p → p ≡ Cleared
@@ -174,7 +174,7 @@ pub answered-left : (c : Call) (e : Event) → isAnswered (c .stand .phase) ≡ 
     stepOf c e .call .stand .phase ≡ Cleared
 answered-left c e h =
     stepped (λ (o : Outcome). isAnswered (o .call .stand .phase) ≡ false → o .call .stand .phase ≡ Cleared) c e
-    (λ v i. cc) (λ n v p q i. cc)
+    (λ v i. cc) (λ n k v p q i. cc)
     (λ n d. past-answered _ (leb-true _ _ (so _ _ (so _ _ (holds lasting (λ e t a b. refl) c e) (d .row)) h)))
 
 -- ---- ANSWERED is entered by an answer
@@ -306,7 +306,7 @@ pub answered-entered : (c : Call) (e : Event) → isAnswered (c .stand .phase) �
     Answering c e (stepOf c e)
 answered-entered c e h =
     stepped (λ (o : Outcome). isAnswered (o .call .stand .phase) ≡ true → Answering c e o) c e
-    (λ v l. differ (sym h ∙ l)) (λ n v p q l. differ (sym h ∙ l))
+    (λ v l. differ (sym h ∙ l)) (λ n k v p q l. differ (sym h ∙ l))
     (λ n d l.
     let k = so _ _ (so _ _ (so _ _ (holds entering (λ e t a b. refl) c e) (d .row)) (ap not h)) l in
     let p = in-setup (c .stand .phase) (left (isSetup (c .stand .phase)) _ k) in
@@ -332,5 +332,5 @@ pub active-stays : (c : Call) (e : Event) → runs (c .stand) ≡ true → isAns
     isRev Active (stepOf c e .call .stand .rev) ≡ true
 active-stays c e h =
     stepped (λ (o : Outcome). isAnswered (o .call .stand .phase) ≡ true → isRev Active (o .call .stand .rev) ≡ true) c e
-    (λ v l. right (isAnswered (c .stand .phase)) _ h) (λ n v p q l. right (isAnswered (c .stand .phase)) _ h)
+    (λ v l. right (isAnswered (c .stand .phase)) _ h) (λ n k v p q l. right (isAnswered (c .stand .phase)) _ h)
     (λ n d l. so _ _ (so _ _ (so _ _ (holds runsOn (λ e t a b. refl) c e) (d .row)) h) l)

@@ -18,7 +18,7 @@ use Rattle.rows.specs.Promises.{sent, holding, isAnswer, isFacility, bar
 use Rattle.rows.specs.Promises.{calledTurns, setupTold, answeredTold, messageTurns, accessTurns, takesEffect, InEffect}
 use Rattle.rows.specs.Read.{bit, lowest, interactionBy, modeBy, extentBy}
 use Rattle.rows.specs.Rows
-use Rattle.rows.specs.Step.{totalOf, takesOf, stepOf}
+use Rattle.rows.specs.Step.{totalOf, takesOf, isOpening, isUnopened, stepOf}
 use Rattle.rows.specs.Valid.{placedOf, meteredOf, validOf, eventOk}
 use Rattle.rows.specs.declared.Call.{Call}
 use Rattle.rows.specs.declared.Component.{Component}
@@ -42,7 +42,7 @@ use Rattle.rows.specs.declared.RevState.the-variants.{Idle, WaitSetup, W
 use Rattle.rows.specs.declared.RevState.the-variants.{WaitCalled}
 use Rattle.rows.specs.declared.Role.{Role}
 use Rattle.rows.specs.declared.Role.the-variants.{Originating, Destination}
-use Rattle.rows.proofs.Answers.{row-decides}
+use Rattle.rows.proofs.Answers.{row-decides, opened-then}
 use Rattle.rows.proofs.Placed.{placed}
 use Rattle.rows.proofs.Stays.{within-limit}
 use Rattle.rows.proofs.Truth.{differ, left, right, both, either}
@@ -90,7 +90,8 @@ module _ (f : Flags) (a b : Bool) (m : Meters) (u v w : Number) (s : ℕ) where
 time-number : (c : Call) (s : ℕ) → validOf c ≡ true → c .stand .phase ≡ Answered → s ≤ 86400 →
     stepOf c (Time s) .number ≡ numberBy (giveOf (c .meters) s)
 time-number c s v h d =
-    ap (λ (o : Outcome). o .number) (row-decides c (Time s) v (le-leb s 86400 d))
+    ap (λ (o : Outcome). o .number)
+    (row-decides c (Time s) v (opened-then isAnswered (c .stand .phase) refl (ap isAnswered h)) refl (both (le-leb s 86400 d) refl))
     ∙ counts (c .side .flags) (c .stand .agreed) (c .stand .rest) (c .meters) (c .side .own) (c .side .calling) (c .side .called) s
     (c .side .role) (c .stand .phase) (c .stand .rev) (valid-place c v) (ap isAnswered h)
 
@@ -320,6 +321,24 @@ takes-effect c (FromAccess k n) v h =
 takes-effect c Expiry v h = differ h
 takes-effect c (Time s) v h = differ h
 
+-- none of them stands before the opening, or is one
+pub effect-opened : (c : Call) (e : Event) → takesEffect c e ≡ true → isUnopened (c .stand .phase) ≡ false
+effect-opened c (Opening r f n) h = differ h
+effect-opened c (Ask q n) h = differ h
+effect-opened c (Received m) h =
+    opened-then (λ p. messageTurns (c .side .role) p (c .stand .rev) (c .side .flags) (c .stand .rest) m) (c .stand .phase) refl h
+effect-opened c (FromAccess k n) h = opened-then (λ p. accessTurns (c .side .role) p (c .stand .rev) k) (c .stand .phase) refl h
+effect-opened c Expiry h = differ h
+effect-opened c (Time s) h = differ h
+
+effect-later : (c : Call) (e : Event) → takesEffect c e ≡ true → isOpening e ≡ false
+effect-later c (Opening r f n) h = differ h
+effect-later c (Ask q n) h = refl
+effect-later c (Received m) h = refl
+effect-later c (FromAccess k n) h = refl
+effect-later c Expiry h = refl
+effect-later c (Time s) h = refl
+
 -- each row that leads to ACTIVE does so where its needed parts are there and no limit is passed
 pub reversal-takes-effect : (c : Call) (e : Event) → validOf c ≡ true → eventOk e ≡ true → takesEffect c e ≡ true → InEffect (stepOf c e)
-reversal-takes-effect c e v k h = subst InEffect (sym (row-decides c e v k)) (takes-effect c e v h)
+reversal-takes-effect c e v k h = subst InEffect (sym (row-decides c e v (effect-opened c e h) (effect-later c e h) k)) (takes-effect c e v h)

@@ -10,7 +10,6 @@ use Rattle.rows.specs.Bill.{Took, nothing, took, turns, inEffect, said, 
 use Rattle.rows.specs.History.{run, written, history, opening}
 use Rattle.rows.specs.Promises.{reversals, Extends, with-more}
 use Rattle.rows.specs.Step.{stepOf}
-use Rattle.rows.specs.Valid.{validOf, eventOk}
 use Rattle.rows.specs.declared.Call.{Call}
 use Rattle.rows.specs.declared.Event.{Event}
 use Rattle.rows.specs.declared.Number.{Number}
@@ -19,7 +18,7 @@ use Rattle.rows.specs.declared.Phase.{Phase}
 use Rattle.rows.specs.declared.Phase.the-variants.{Unopened, Null, Setup, Answered, Cleared}
 use Rattle.rows.specs.declared.RevState.{RevState}
 use Rattle.rows.specs.declared.RevState.the-variants.{Active}
-use Rattle.rows.proofs.Answers.{guard-9, guard-3}
+use Rattle.rows.proofs.Answers.{refused-or-performed}
 use Rattle.rows.proofs.Truth.{differ}
 use Rattle.rows.proofs.Whole.{Known, known, note, noteSeconds, readAll, waiting, Agrees, null, setup, asked-A, asked-D, talks}
 use Rattle.rows.proofs.Whole.{asked-B, turned, over, keeps, reached, from-opening}
@@ -118,8 +117,15 @@ ended-keeps {f} {c} {d} (turned {t = t} {k = k} {x = x} {y = y} z) h e = (
   calm (counted (written c e (stepOf c e))) (accepted (written c e (stepOf c e)) && inEffect (written c e (stepOf c e))) (secondsIn e),
 )
 ended-keeps {f} {c} {d} (over z) h e =
-    guard-9 (λ (a : Outcome). Ended (a .call) × Calm (mark f d (written c e a))) (validOf c) c e
-    (guard-3 (λ (a : Outcome). Ended (a .call) × Calm (mark f d (written c e a))) (eventOk e) c e (refl, λ ms. refl) (refl, λ ms. refl))
+    refused-or-performed (λ (a : Outcome). Ended (a .call) × Calm (mark f d (written c e a))) c e (refl, λ ms. refl)
+    (record {
+      one = (refl, λ ms. refl);
+      three = λ k. (refl, λ ms. refl);
+      fifteen = (refl, λ ms. refl);
+      sixteen = (refl, λ ms. refl);
+      seventeen = (refl, λ ms. refl);
+      eighteen = (refl, λ ms. refl);
+    })
     (refl, λ ms. refl)
 
 none-after : {f : ℕ} {c : Call} {d : Mark} {o : Known} (es : List Event) → Agrees f c d o → Ended c → reversals (marks f d (history c es)) ≡ 0
@@ -228,7 +234,8 @@ over-quiet (e ∷ es) (asked-B z) h = differ (ap isOver h)
 over-quiet (e ∷ es) (turned z) h = differ (ap isOver h)
 over-quiet {f} {c} {d} {o} (e ∷ es) (over z) h =
     let q = one-more (over-quiet {c = c} {d = d} {o = o} es (over z) refl) in
-    guard-9 Shows-nothing (validOf c) c e (guard-3 Shows-nothing (eventOk e) c e q q) q
+    refused-or-performed Shows-nothing c e q
+    (record { one = q; three = λ k. q; fifteen = q; sixteen = q; seventeen = q; eighteen = q }) q
   where
     Shows-nothing : Outcome → Type 0
     Shows-nothing a = Quiet (mark f d (written c e a) ∷ marks f (waits f d (written c e a)) (history (a .call) es))

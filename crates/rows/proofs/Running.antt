@@ -2,17 +2,15 @@
 -- changes.
 -- Assumes nothing.
 use mathlib.Core.Path.{_≡_, refl, sym, _∙_, subst}
-use mathlib.Core.Bool.{true}
+use mathlib.Core.Bool.{true, false, _&&_}
 use Prim.Native.Nat.{ℕ}
 use lib.Dec.{eqb}
 use borrow.Author.Tests.{eqb-true}
 use Rattle.rows.specs.Find.{waitActiveOf, activeOf, waitActiveConfOf, setupWaitCalledOf, answeredWaitCalledOf, rowForOf}
-use Rattle.rows.specs.Perform.{performOf}
 use Rattle.rows.specs.Promises.{isFacility, tellsRunning, asksReversal, isInvoke, toldRunning, sentRunning}
-use Rattle.rows.specs.Read.{readOf, cueOf, termsOf}
-use Rattle.rows.specs.Rows.{planOf}
-use Rattle.rows.specs.Step.{takesOf, stepOf}
-use Rattle.rows.specs.Valid.{placedOf, validOf, eventOk}
+use Rattle.rows.specs.Read.{readOf, cueOf}
+use Rattle.rows.specs.Step.{takenBy, takesOf, isUnopened, stepOf}
+use Rattle.rows.specs.Valid.{idleOnly, placedOf, validOf, eventOk}
 use Rattle.rows.specs.declared.Call.{Call}
 use Rattle.rows.specs.declared.Component.{Component}
 use Rattle.rows.specs.declared.Component.the-variants.{Absent, Invoke, Result, Error, Reject, Unknown}
@@ -25,12 +23,14 @@ use Rattle.rows.specs.declared.Number.{Number}
 use Rattle.rows.specs.declared.Outcome.{Outcome}
 use Rattle.rows.specs.declared.Phase.{Phase}
 use Rattle.rows.specs.declared.RevState.{RevState}
+use Rattle.rows.specs.declared.RevState.the-variants.{Idle, WaitSetup, WaitActive, WaitAnswer, Active, WaitSetupConf, WaitActiveConf}
+use Rattle.rows.specs.declared.RevState.the-variants.{WaitCalled}
 use Rattle.rows.specs.declared.Role.{Role}
 use Rattle.rows.specs.declared.Row.{Row}
-use Rattle.rows.proofs.Answers.{row-decides}
+use Rattle.rows.proofs.Answers.{row-decides, opened-then}
 use Rattle.rows.proofs.Placed.{placed}
 use Rattle.rows.proofs.Progress.{valid-place, with-these, a-facility}
-use Rattle.rows.proofs.Truth.{differ, either}
+use Rattle.rows.proofs.Truth.{both, differ, either}
 
 -- ---- What holds of the five tables holds wherever it is running
 
@@ -64,7 +64,7 @@ any-invoke P (Unknown k n) h y = differ h
 module _ (c : Call) (v : validOf c ≡ true) (i : tellsRunning (c .stand .rev) ≡ true) where
   -- a row gives the answer o to an event; a table has a row that does
   abbrev Gives : Outcome → Event → Row → Type 0
-  Gives o e x = performOf c (planOf x (termsOf (c .side .flags) (c .stand) (readOf e))) (readOf e) ≡ o
+  Gives o e x = takenBy x c (readOf e) ≡ o
 
   abbrev Has : Outcome → Event → (Kind → Cue → Row) → Type 0
   Has o e table = Gives o e (table (readOf e .kind) (cueOf (readOf e)))
@@ -87,10 +87,25 @@ module _ (c : Call) (v : validOf c ≡ true) (i : tellsRunning (c .stand .rev) �
       Sent : ℕ → Component → Type 0
       Sent k x = takesOf c (with-these m k x) ≡ sentRunning c
 
+idle-runs-nothing : (s : RevState) → (idleOnly s && tellsRunning s) ≡ false
+idle-runs-nothing Idle = refl
+idle-runs-nothing WaitSetup = refl
+idle-runs-nothing WaitActive = refl
+idle-runs-nothing WaitAnswer = refl
+idle-runs-nothing Active = refl
+idle-runs-nothing WaitSetupConf = refl
+idle-runs-nothing WaitActiveConf = refl
+idle-runs-nothing WaitCalled = refl
+
+running-opened : (c : Call) → validOf c ≡ true → tellsRunning (c .stand .rev) ≡ true → isUnopened (c .stand .phase) ≡ false
+running-opened c v i =
+    opened-then (λ p. placedOf (c .side .role) p (c .stand .rev) && tellsRunning (c .stand .rev)) (c .stand .phase) (idle-runs-nothing (c .stand .rev))
+    (both (valid-place c v) i)
+
 pub running-here : (c : Call) (q : ℕ) (n : Number) → validOf c ≡ true → eventOk (Ask q n) ≡ true → tellsRunning (c .stand .rev) ≡ true →
     asksReversal q ≡ true → stepOf c (Ask q n) ≡ toldRunning c
-running-here c q n v k i h = row-decides c (Ask q n) v k ∙ asked c v i q n h
+running-here c q n v k i h = row-decides c (Ask q n) v (running-opened c v i) refl k ∙ asked c v i q n h
 
 pub running-there : (c : Call) (m : Message) → validOf c ≡ true → eventOk (Received m) ≡ true → tellsRunning (c .stand .rev) ≡ true →
     isFacility m ≡ true → isInvoke (m .component) ≡ true → stepOf c (Received m) ≡ sentRunning c
-running-there c m v k i f h = row-decides c (Received m) v k ∙ invoked c v i m f h
+running-there c m v k i f h = row-decides c (Received m) v (running-opened c v i) refl k ∙ invoked c v i m f h

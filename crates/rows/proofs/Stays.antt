@@ -25,7 +25,7 @@ use Rattle.rows.specs.Read.{bit, readOf}
 use Rattle.rows.specs.Telephone.{national}
 use Rattle.rows.specs.Step.{unopenedCall, stepOf}
 use Rattle.rows.specs.Valid.{placedOf, inRange, unmetered, payerNobody, payerThere, tallied, meteredOf, payingThere, payingOf}
-use Rattle.rows.specs.Valid.{numbersHeld, validOf, numberIf, componentOk, partsOk, eventOk}
+use Rattle.rows.specs.Valid.{numbersHeld, validOf, numberThere, numberIf, eventOk}
 use Rattle.rows.specs.declared.Call.{Call}
 use Rattle.rows.specs.declared.Event.{Event}
 use Rattle.rows.specs.declared.Event.the-variants.{Opening, Ask, Received, FromAccess, Expiry, Time}
@@ -43,6 +43,7 @@ use Rattle.rows.specs.declared.Side.{Side}
 use Rattle.rows.specs.declared.Stand.{Stand}
 use Rattle.rows.proofs.Found.{implies, so, Test, holds, stepped}
 use Rattle.rows.proofs.Answers.{planFor}
+use Rattle.rows.proofs.Ranges.{message-in-range}
 use Rattle.rows.proofs.Truth.{both, differ, left, or-none, right}
 
 -- ---- Numbers: those that an event in range carries are in range
@@ -61,18 +62,15 @@ pub record Carries (r : Reading) : Type 0 where
   pub called : inRange (r .called) ≡ true
 
 carries : (e : Event) → eventOk e ≡ true → Carries (readOf e)
-carries (Opening r f n) h = record { own = left (inRange n) _ (right (leb f 31) _ (right (leb r 1) _ h)); calling = refl; called = refl }
-carries (Ask q n) h = record { own = refl; calling = refl; called = number (leb q 1) n (right (leb q 3) _ h) }
+carries (Opening r f n) h =
+    record { own = left (inRange n) _ (left (numberThere n) _ (right (leb f 31) _ (right (leb r 1) _ h))); calling = refl; called = refl }
+carries (Ask q n) h = record { own = refl; calling = refl; called = number (leb q 1) n (left (numberIf (leb q 1) n) _ (right (leb q 3) _ h)) }
 carries (Received m) h =
-    let n =
-    right (partsOk (m .parts)) _
-    (right (componentOk (m .component)) _ (right (leb (m .cause) 127) _ (right (leb 1 (m .kind) && leb (m .kind) 5) _ h))) in
+    let o = message-in-range m h in
     record {
       own = refl;
-      calling = number (bit 16 (m .parts)) (m .calling) (left (numberIf (bit 16 (m .parts)) (m .calling)) _ n);
-      called =
-          number (bit 32 (m .parts)) (m .called)
-          (left (numberIf (bit 32 (m .parts)) (m .called)) _ (right (numberIf (bit 16 (m .parts)) (m .calling)) _ n));
+      calling = number (bit 16 (m .parts)) (m .calling) (o .calling);
+      called = number (bit 32 (m .parts)) (m .called) (o .called);
     }
 carries (FromAccess a n) h = record { own = refl; calling = refl; called = refl }
 carries Expiry h = record { own = refl; calling = refl; called = refl }
@@ -492,7 +490,7 @@ totals-within Destination t m z = total-held m (in-order Destination t m (z .met
 -- A call that step takes is followed by one that step takes, whatever the event.
 pub call-stays : (c : Call) (e : Event) → validOf c ≡ true → validOf (stepOf c e .call) ≡ true
 call-stays c e v =
-    stepped (λ (o : Outcome). validOf (o .call) ≡ true) c e (λ w. v) (λ n w p q. v)
+    stepped (λ (o : Outcome). validOf (o .call) ≡ true) c e (λ w. v) (λ n k w p q. v)
     (λ n d.
     made _ _ n
     (follows (c .side) (c .stand) (standOf (planFor c e .next) (c .stand)) (c .meters) n (planFor c e .change) e (d .ranged) (good c v)
@@ -512,7 +510,7 @@ unopened-valid = refl
 pub nine-exactly : (c : Call) (e : Event) → eqb (stepOf c e .number) 9 ≡ not (validOf c)
 nine-exactly c e =
     stepped (λ (o : Outcome). eqb (o .number) 9 ≡ not (validOf c)) c e
-    (λ v. sym (ap not v)) (λ n v p q. q ∙ sym (ap not v)) (λ n d. sym (ap not (d .valid)))
+    (λ v. sym (ap not v)) (λ n k v p q. q ∙ sym (ap not v)) (λ n d. sym (ap not (d .valid)))
 
 -- No step of any history from a call that step takes has the number 9.
 pub never-nine : (c : Call) (es : List Event) → validOf c ≡ true → noneIs 9 (history c es) ≡ true

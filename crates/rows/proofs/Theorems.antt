@@ -14,14 +14,14 @@ use Rattle.meters.specs.Meters.{newOf, sumOf}
 use Rattle.meters.specs.declared.Payer.the-variants.{Nobody}
 use Rattle.rows.specs.Bill.{bitAt, isAnswered, isRev, answered, Case, plain, marks, took, reversal, payer, bill, line}
 use Rattle.rows.specs.History.{run, written, history, opening}
-use Rattle.rows.specs.Perform.{refusedOf}
-use Rattle.rows.specs.Promises.{NothingDone, noneIs, unpaid, Answering, runs, inCall, Clears, chargedBy, placeIn, isOpening}
+use Rattle.rows.specs.Perform.{refusedAt}
+use Rattle.rows.specs.Promises.{NothingDone, noneIs, unpaid, Answering, runs, inCall, Clears, chargedBy, placeIn}
 use Rattle.rows.specs.Promises.{isFacility, tellsRunning, asksReversal, isInvoke, errorIs, toldRunning, sentRunning}
-use Rattle.rows.specs.Promises.{requestHasRow, invokeHasRow}
+use Rattle.rows.specs.Promises.{saysNoRow, requestHasRow, invokeHasRow}
 use Rattle.rows.specs.Promises.{openingThere, secondsThere, noDuration, lastedIn, withTotal, totalFits}
 use Rattle.rows.specs.Promises.{reversals, Extends, OtherDigits, Redialled, AllRedialled, Renumbered, SameAnswer, numbers}
 use Rattle.rows.specs.Promises.{takesEffect, InEffect, PassedOn, Keeps, OnlyOwn, HoldsOrClears}
-use Rattle.rows.specs.Step.{unopenedCall, totalOf, stepOf}
+use Rattle.rows.specs.Step.{unopenedCall, totalOf, isOpening, stepOf}
 use Rattle.rows.specs.Telephone.{absent, sameNumber}
 use Rattle.rows.specs.Valid.{inRange, numberThere, validOf, eventOk}
 use Rattle.rows.specs.declared.Call.{Call}
@@ -37,7 +37,7 @@ use Rattle.rows.proofs.Clearing
 use Rattle.rows.proofs.Destination
 use Rattle.rows.proofs.Digits
 use Rattle.rows.proofs.Opened
-use Rattle.rows.proofs.Opened.{Told, early, oneOrThree}
+use Rattle.rows.proofs.Opened.{Told, early, untimelyOrThree}
 use Rattle.rows.proofs.Passed
 use Rattle.rows.proofs.Payers
 use Rattle.rows.proofs.Phases
@@ -58,8 +58,8 @@ use Rattle.rows.proofs.Whole.{Shows}
 pub refusal-changes-nothing : (c : Call) (e : Event) → (stepOf c e .number ≡ 0 → ⊥) → NothingDone c (stepOf c e)
 refusal-changes-nothing = Refusals.refusal-changes-nothing
 
--- .. and is the refusal of its number.
-pub refusal-is : (c : Call) (e : Event) → (stepOf c e .number ≡ 0 → ⊥) → stepOf c e ≡ refusedOf (stepOf c e .number) c
+-- .. and is the refusal of its number and of the field that it names.
+pub refusal-is : (c : Call) (e : Event) → (stepOf c e .number ≡ 0 → ⊥) → stepOf c e ≡ refusedAt (stepOf c e .number) (stepOf c e .field) c
 refusal-is = Refusals.refusal-is
 
 -- A call stays a call, whatever the event.
@@ -173,16 +173,16 @@ pub sent-only-running : (c : Call) (m : Message) → validOf c ≡ true → even
     errorIs 12 (stepOf c (Received m) .note .component) ≡ true → (isFacility m && tellsRunning (c .stand .rev)) ≡ true
 sent-only-running = Requests.sent-only-running
 
--- Of the own user's requests in range, at a call, 1 is given for those that have no row in that role, phase and REV state (`requestHasRow`:
--- the table of those that have one), and for no other ..
-pub request-one-exactly : (c : Call) (q : ℕ) (n : Number) → validOf c ≡ true → eventOk (Ask q n) ≡ true →
-    eqb (stepOf c (Ask q n) .number) 1 ≡ not (requestHasRow (c .side .role) (c .stand .phase) (c .stand .rev) q)
-request-one-exactly = Requests.request-one-exactly
+-- Of the own user's requests in range, at a call, those that have no row in that role, phase and REV state (`requestHasRow`: the table of
+-- those that have one) are told so, by 1, 15 or 16, and before the opening by 17 (`saysNoRow`), and no other is ..
+pub request-no-row-exactly : (c : Call) (q : ℕ) (n : Number) → validOf c ≡ true → eventOk (Ask q n) ≡ true →
+    saysNoRow (stepOf c (Ask q n) .number) ≡ not (requestHasRow (c .side .role) (c .stand .phase) (c .stand .rev) q)
+request-no-row-exactly = Requests.request-no-row-exactly
 
 -- .. and so of the other exchange's messages with an invoke (`invokeHasRow`).
-pub invoke-one-exactly : (c : Call) (m : Message) → validOf c ≡ true → eventOk (Received m) ≡ true → isInvoke (m .component) ≡ true →
-    eqb (stepOf c (Received m) .number) 1 ≡ not (invokeHasRow (c .side .role) (c .stand .phase) (c .stand .rev) (m .kind) (m .component))
-invoke-one-exactly = Requests.invoke-one-exactly
+pub invoke-no-row-exactly : (c : Call) (m : Message) → validOf c ≡ true → eventOk (Received m) ≡ true → isInvoke (m .component) ≡ true →
+    saysNoRow (stepOf c (Received m) .number) ≡ not (invokeHasRow (c .side .role) (c .stand .phase) (c .stand .rev) (m .kind) (m .component))
+invoke-no-row-exactly = Requests.invoke-no-row-exactly
 
 -- ---- Demand 3: who pays each answered second of an originating call
 
@@ -196,11 +196,11 @@ billed = Whole.billed
 pub opens-in-range : (f : ℕ) (own : Number) → eventOk (Opening 0 f own) ≡ true → opening f own .number ≡ 0
 opens-in-range = Whole.opens-in-range
 
--- The same from before the opening; what comes before it is refused with 1 or 3.
+-- The same from before the opening; what comes before it is refused with 17, or an opening with 3.
 pub line-billed : (es : List Event) → Told (run unopenedCall es) (line (history unopenedCall es))
 line-billed = Opened.line-billed
 
-pub early-refused : (es : List Event) → oneOrThree (early (history unopenedCall es)) ≡ true
+pub early-refused : (es : List Event) → untimelyOrThree (early (history unopenedCall es)) ≡ true
 early-refused = Opened.early-refused
 
 -- Who pays now: in ANSWERED the payer who is charged is the one that the history names for the seconds to come.

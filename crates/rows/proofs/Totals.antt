@@ -31,7 +31,7 @@ use Rattle.rows.specs.declared.Role.the-variants.{Originating, Destinati
 use Rattle.rows.proofs.Answers.{planFor}
 use Rattle.rows.proofs.Found.{implies, so, Test, holds, stepped}
 use Rattle.rows.proofs.Stays
-use Rattle.rows.proofs.Truth.{both, left, right}
+use Rattle.rows.proofs.Truth.{alike, are-alike, both, left, right}
 use Rattle.rows.proofs.Whole
 use Rattle.rows.proofs.Whole.{by-kind}
 
@@ -47,16 +47,6 @@ isPassing Fac = false
 isPassing Tells = false
 isPassing Expires = false
 isPassing Passes = true
-
-abbrev alike : Bool → Bool → Bool
-alike true b = b
-alike false b = not b
-
-are-alike : (a b : Bool) → alike a b ≡ true → a ≡ b
-are-alike true true h = refl
-are-alike true false h = sym h
-are-alike false true h = h
-are-alike false false h = refl
 
 abbrev counting : Test
 counting r now k p = implies (eqb (p .number) 0) (alike (timed (p .change)) (isPassing k && isAnswered (now .phase)))
@@ -85,7 +75,7 @@ pub total-counts : (c : Call) (e : Event) → totalOf (stepOf c e .call) ≡ tot
 total-counts c e =
     stepped (λ (o : Outcome). totalOf (o .call) ≡ totalOf c + lastedIn (written c e o)) c e
     (λ v. omega arith)
-    (λ n v z q. refused n z)
+    (λ n k v z q. refused n z)
     (λ n d. grown n (total-grows (planFor c e .change) (c .meters) n (readOf e .seconds) (d .meters)) (d .row))
   where
     refused : (n : ℕ) → eqb n 0 ≡ false → totalOf c ≡ totalOf c + pick (eqb n 0 && (isTime e && isAnswered (c .stand .phase))) (secondsIn e) 0

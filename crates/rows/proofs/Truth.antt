@@ -1,7 +1,7 @@
 -- What a test that came out true says of its parts.
 -- Assumes nothing.
 use mathlib.Core.Path.{_≡_, refl, sym, _∙_, ap}
-use mathlib.Core.Bool.{Bool, true, false, _&&_, _||_}
+use mathlib.Core.Bool.{Bool, true, false, _&&_, _||_, not}
 use Prim.Native.Nat.{ℕ}
 use native.Mathlib.Omega.{arith}
 
@@ -40,3 +40,14 @@ neither-left false b h = refl
 pub neither-right : (a b : Bool) → (a || b) ≡ false → b ≡ false
 neither-right true b h = differ (sym h)
 neither-right false b h = h
+
+-- two that come out the same
+abbrev pub alike : Bool → Bool → Bool
+alike true b = b
+alike false b = not b
+
+pub are-alike : (a b : Bool) → alike a b ≡ true → a ≡ b
+are-alike true true h = refl
+are-alike true false h = sym h
+are-alike false true h = h
+are-alike false false h = refl

@@ -26,8 +26,8 @@ use Rattle.rows.specs.Read.{bit, lowest, flagsOf, heardOf, kindBy, kindO
 use Rattle.rows.specs.Read.{extentBy, correctBy, termsOf}
 use Rattle.rows.specs.Rows
 use Rattle.rows.specs.Rows.{planOf}
-use Rattle.rows.specs.Step.{unopenedCall, takesOf, ifInRange, stepOf}
-use Rattle.rows.specs.Valid.{validOf, eventOk}
+use Rattle.rows.specs.Step.{unopenedCall, ifInRange, stepOf}
+use Rattle.rows.specs.Valid.{eventOk}
 use Rattle.rows.specs.declared.Call.{Call}
 use Rattle.rows.specs.declared.Component.{Component}
 use Rattle.rows.specs.declared.Component.the-variants.{Absent, Invoke, Result, Error, Reject, Unknown}
@@ -54,7 +54,7 @@ use Rattle.rows.specs.declared.RevState.the-variants.{Idle, WaitSetup, W
 use Rattle.rows.specs.declared.RevState.the-variants.{WaitCalled}
 use Rattle.rows.specs.declared.Role.the-variants.{Originating}
 use Rattle.rows.specs.declared.Row.{Row}
-use Rattle.rows.proofs.Answers.{settled, guard-3, guard-9}
+use Rattle.rows.proofs.Answers.{performed, settled, refused-or-performed}
 use Rattle.rows.proofs.Found.{split, fork}
 
 -- ---- What a reader of the history knows so far: the reversal, the seconds before it and those after it
@@ -309,7 +309,7 @@ module _ (f : ℕ) (u v w : Number) (a r : Bool) (d : Mark) (m : Message) (s : S
 
 -- an event's row keeps the agreement
 abbrev Kept : ℕ → Call → Mark → Known → Event → Type 0
-Kept f c d o e = Good f (heardIn f e) c d o e (takesOf c e)
+Kept f c d o e = Good f (heardIn f e) c d o e (performed c e)
 
 opens : (f k g : ℕ) (n : Number) {c : Call} {d : Mark} {o : Known} → Agrees f c d o → Kept f c d o (Opening k g n)
 opens f k g n null = search states
@@ -455,7 +455,8 @@ takes f (Time s) y = passes f s y
 
 keeps-heard : (f : ℕ) {c : Call} {d : Mark} {o : Known} (e : Event) → Agrees f c d o → Good f (heardIn f e) c d o e (stepOf c e)
 keeps-heard f {c} {d} {o} e y =
-    guard-9 (Good f (heardIn f e) c d o e) (validOf c) c e (guard-3 (Good f (heardIn f e) c d o e) (eventOk e) c e (takes f e y) y) y
+    refused-or-performed (Good f (heardIn f e) c d o e) c e y
+    (record { one = y; three = λ k. y; fifteen = y; sixteen = y; seventeen = y; eighteen = y }) (takes f e y)
 
 pub keeps : (f : ℕ) {c : Call} {d : Mark} {o : Known} (e : Event) → Agrees f c d o → Good f (said f e) c d o e (stepOf c e)
 keeps f {c} {d} {o} e y = subst (λ (s : Said). Good f s c d o e (stepOf c e)) (same-words f e) (keeps-heard f e y)

@@ -10,4 +10,5 @@ pub mod Rows
 pub mod Step
 pub mod Telephone
 pub mod Valid
+pub mod Why
 pub mod Tried

@@ -6,6 +6,7 @@ use Prim.Native.Nat.{ℕ}
 abbrev pub applied : ℕ
 applied = 0
 
+-- 02 #106: "1 stays for an event that has no row in this role at any time"
 abbrev pub noRow : ℕ
 noRow = 1
 
@@ -23,6 +24,19 @@ notACall = 9
 
 abbrev pub nobodyPays : ℕ
 nobodyPays = 10
+
+-- 02 #106: "15 is for the wrong phase"; "16 for the wrong REV state"; "An event before the opening gets 17 and a second opening 18"
+abbrev pub wrongPhase : ℕ
+wrongPhase = 15
+
+abbrev pub wrongState : ℕ
+wrongState = 16
+
+abbrev pub beforeOpening : ℕ
+beforeOpening = 17
+
+abbrev pub openedBefore : ℕ
+openedBefore = 18
 
 -- 01, kind 3: messages
 abbrev pub iam : ℕ

@@ -152,11 +152,12 @@ sideOf CallingNumber s r = withNumbers s (orHeld (leb 1 (r .calling .count)) (r 
 
 -- ---- The answer
 
--- a refusal: its number, no actions and the call as it stood
-abbrev pub refusedOf : ℕ → Call → Outcome
-refusedOf n c =
+-- a refusal: its number, beside 3 the bad field's ordinal, no actions and the call as it stood
+abbrev pub refusedAt : ℕ → ℕ → Call → Outcome
+refusedAt n k c =
     record {
       number = n;
+      field = k;
       call = c;
       note = noNote;
       first = Act.Nothing;
@@ -165,10 +166,15 @@ refusedOf n c =
       fourth = Act.Nothing;
     }
 
+-- 02 #106: the ordinal is 0 "where the number is not 3"
+abbrev pub refusedOf : ℕ → Call → Outcome
+refusedOf n c = refusedAt n 0 c
+
 abbrev pub givenOf : Plan → Call → Note → Act → Outcome
 givenOf p c m stop =
     record {
       number = applied;
+      field = 0;
       call = c;
       note = m;
       first = givenAs (p .first) stop;

@@ -93,15 +93,6 @@ placeIn Setup = 2
 placeIn Answered = 3
 placeIn Cleared = 4
 
--- 01, kind 1
-abbrev pub isOpening : Event → Bool
-isOpening (Opening r f n) = true
-isOpening (Ask q n) = false
-isOpening (Received m) = false
-isOpening (FromAccess a n) = false
-isOpening Expiry = false
-isOpening (Time s) = false
-
 -- 01, kind 4: this word from the own access
 abbrev pub isWord : ℕ → Event → Bool
 isWord k (Opening r f n) = false
@@ -359,6 +350,7 @@ pub data Renumbered : Call → Call → Type 0 where
 -- the same number given back, and the same actions and the same call but for telephone numbers
 pub record SameAnswer (a b : Outcome) : Type 0 where
   pub number : a .number ≡ b .number
+  pub field : a .field ≡ b .field
   pub call : Renumbered (a .call) (b .call)
   pub first : a .first ≡ b .first
   pub second : a .second ≡ b .second
@@ -523,6 +515,7 @@ abbrev pub saidAlone : Act → ℕ → Component → Call → Outcome
 saidAlone act error component c =
     record {
       number = 0;
+      field = 0;
       call = c;
       note =
           record {
@@ -549,6 +542,10 @@ abbrev pub sentRunning : Call → Outcome
 sentRunning c = saidAlone Act.SendFac 0 (Error 12) c
 
 -- ---- Which requests have a row: proofs/Requests.antt. To be read at the places that 01 allows; elsewhere the answer is 9
+
+-- no row: 1, 15 or 16, and before the opening 17
+abbrev pub saysNoRow : ℕ → Bool
+saysNoRow n = eqb n 1 || (eqb n 15 || (eqb n 16 || eqb n 17))
 
 -- 01, kind 2: a request (q: 0 a basic call, 1 A, 2 B, 3 C) of the own user has a row
 abbrev pub requestHasRow : Role → Phase → RevState → ℕ → Bool

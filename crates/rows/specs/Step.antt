@@ -3,24 +3,28 @@
 use Prim.Native.Nat.{ℕ}
 use mathlib.Core.Bool.{Bool, true, false}
 use Rattle.rows.specs.Find.{rowForOf}
-use Rattle.rows.specs.Numbers.{badField, notACall, iam, anm, rel, fac}
-use Rattle.rows.specs.Perform.{at, refusedOf, performOf}
+use Rattle.rows.specs.Numbers.{badField, notACall, beforeOpening, openedBefore, iam, anm, rel, fac}
+use Rattle.rows.specs.Perform.{at, refusedAt, refusedOf, performOf}
 use Rattle.rows.specs.Read.{flagsOf, readOf, cueOf, termsOf}
 use Rattle.rows.specs.Telephone.{absent}
 use Rattle.rows.specs.Rows.{planOf}
-use Rattle.rows.specs.Valid.{validOf, eventOk}
+use Rattle.rows.specs.Valid.{validOf, eventOk, badFieldOf}
+use Rattle.rows.specs.Why.{isRow, whyOf}
 use Rattle.meters.specs.Meters.{newOf}
 use mathlib.Core.List.{List, [], _∷_}
 use Rattle.rows.specs.declared.Act.{Act}
 use Rattle.rows.specs.declared.Call.{Call}
 use Rattle.rows.specs.declared.Event.{Event}
+use Rattle.rows.specs.declared.Event.the-variants.{Opening, Ask, Received, FromAccess, Expiry, Time}
 use Rattle.rows.specs.declared.Message.{Message}
 use Rattle.rows.specs.declared.Note.{Note}
 use Rattle.rows.specs.declared.Outcome.{Outcome}
-use Rattle.rows.specs.declared.Phase.the-variants.{Unopened}
+use Rattle.rows.specs.declared.Phase.{Phase}
+use Rattle.rows.specs.declared.Phase.the-variants.{Unopened, Null, Setup, Answered, Cleared}
 use Rattle.rows.specs.declared.Reading.{Reading}
 use Rattle.rows.specs.declared.RevState.the-variants.{Idle}
 use Rattle.rows.specs.declared.Role.the-variants.{Originating}
+use Rattle.rows.specs.declared.Row.{Row}
 
 -- a call before its opening
 abbrev pub unopenedCall : Call
@@ -35,22 +39,52 @@ unopenedCall =
 abbrev pub totalOf : Call → ℕ
 totalOf c = c .meters .total
 
--- find the row by role, phase, REV state and event; plan it by flags, parts and what is pending; perform it
+-- plan the row by flags, parts and what is pending; perform it; where there is none, say why
+abbrev pub ifRow : Bool → Row → Call → Reading → Outcome
+ifRow true x c r = performOf c (planOf x (termsOf (c .side .flags) (c .stand) r)) r
+ifRow false x c r = refusedOf (whyOf (c .side .role) (c .stand .phase) (cueOf r)) c
+
+abbrev pub takenBy : Row → Call → Reading → Outcome
+takenBy x c r = ifRow (isRow x) x c r
+
+-- find the row by role, phase, REV state and event
 abbrev pub takesReading : Call → Reading → Outcome
-takesReading c r =
-    performOf c (planOf (rowForOf (c .side .role) (c .stand .phase) (c .stand .rev) (cueOf r)) (termsOf (c .side .flags) (c .stand) r)) r
+takesReading c r = takenBy (rowForOf (c .side .role) (c .stand .phase) (c .stand .rev) (cueOf r)) c r
 
 abbrev pub takesOf : Call → Event → Outcome
 takesOf c e = takesReading c (readOf e)
 
--- a field out of its range: 3, before any row is looked for
+-- a field out of its range: 3 and its ordinal, before any row is looked for
 abbrev pub ifInRange : Bool → Call → Event → Outcome
 ifInRange true c e = takesOf c e
-ifInRange false c e = refusedOf badField c
+ifInRange false c e = refusedAt badField (badFieldOf e) c
+
+-- 01, kind 1
+abbrev pub isOpening : Event → Bool
+isOpening (Opening r f n) = true
+isOpening (Ask q n) = false
+isOpening (Received m) = false
+isOpening (FromAccess a n) = false
+isOpening Expiry = false
+isOpening (Time s) = false
+
+abbrev pub isUnopened : Phase → Bool
+isUnopened Unopened = true
+isUnopened Null = false
+isUnopened Setup = false
+isUnopened Answered = false
+isUnopened Cleared = false
+
+-- before the opening, an opening and nothing else: 17; after it, no other: 18. "17 and 18 before 3": whatever the event's fields
+abbrev pub ifTimely : Bool → Bool → Call → Event → Outcome
+ifTimely true true c e = ifInRange (eventOk e) c e
+ifTimely true false c e = refusedOf beforeOpening c
+ifTimely false true c e = refusedOf openedBefore c
+ifTimely false false c e = ifInRange (eventOk e) c e
 
 -- what is no call state: 9, before all else
 abbrev pub ifCall : Bool → Call → Event → Outcome
-ifCall true c e = ifInRange (eventOk e) c e
+ifCall true c e = ifTimely (isUnopened (c .stand .phase)) (isOpening e) c e
 ifCall false c e = refusedOf notACall c
 
 abbrev pub stepOf : Call → Event → Outcome

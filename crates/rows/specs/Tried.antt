@@ -209,8 +209,8 @@ year-accepted = refl
 year-and-a-second : run (talked 31536000) (Time 1 ∷ []) ≡ line 2 Answered Idle 31536000 0 0 [] ∷ []
 year-and-a-second = refl
 
--- expiry in IDLE gives 1
-idle-expiry : run (talked 40) (Expiry ∷ []) ≡ line 1 Answered Idle 40 0 0 [] ∷ []
+-- expiry in IDLE has no row: 01's 1, and since 02 #106 it is 16, for WAIT-ACTIVE has one
+idle-expiry : run (talked 40) (Expiry ∷ []) ≡ line 16 Answered Idle 40 0 0 [] ∷ []
 idle-expiry = refl
 
 -- ---- The answered total, 02 #104
@@ -259,17 +259,17 @@ nobody-first : stepOf
     }) (Time 1) .number ≡ 10
 nobody-first = refl
 
--- what an expiry is answered in IDLE, where the call holds this total: 1, it has no row; or 9
+-- what an expiry is answered in IDLE, where the call holds this total: 16, it has no row there; or 9
 abbrev expiry-with : ℕ → Call → ℕ
 expiry-with t c = stepOf (withTotal t c) Expiry .number
 
 -- the caller has used up 40 s: the total is 40; before the answer it is 0
-differs : (expiry-with 39 (talked 40) ≡ 9) × (expiry-with 40 (talked 40) ≡ 1) × (expiry-with 41 (talked 40) ≡ 9)
+differs : (expiry-with 39 (talked 40) ≡ 9) × (expiry-with 40 (talked 40) ≡ 16) × (expiry-with 41 (talked 40) ≡ 9)
     × (expiry-with 1 (after unopenedCall (Opening 1 8 room ∷ [])) ≡ 9)
 differs = (refl, refl, refl, refl)
 
 -- a destination's is not compared with its meters, but it has the limit, and so has the sum of these
-own-limit : (expiry-with 7 (served Idle 40 40) ≡ 1) × (expiry-with 31536000 (served Idle 40 40) ≡ 1)
+own-limit : (expiry-with 7 (served Idle 40 40) ≡ 16) × (expiry-with 31536000 (served Idle 40 40) ≡ 16)
     × (expiry-with 31536001 (served Idle 40 40) ≡ 9) × (expiry-with 40 (served Idle 31536001 40) ≡ 9)
 own-limit = (refl, refl, refl, refl)
 
@@ -317,7 +317,7 @@ digitless-refused = refl
 digitless-held : (run (talkedTo digitless 8 40) (Time 1 ∷ []) ≡ line 9 Answered Idle 40 0 0 [] ∷ [])
     × (run (numbered digitless absent) (Time 1 ∷ []) ≡ line 9 Null Idle 0 0 0 [] ∷ [])
     × (run (numbered room digitless) (Time 1 ∷ []) ≡ line 9 Null Idle 0 0 0 [] ∷ [])
-    × (run (numbered room absent) (Time 1 ∷ []) ≡ line 1 Null Idle 0 0 0 [] ∷ [])
+    × (run (numbered room absent) (Time 1 ∷ []) ≡ line 15 Null Idle 0 0 0 [] ∷ [])
 digitless-held = (refl, refl, refl, refl)
 
 -- ---- The second press, 02 #101: "the wait goes on"

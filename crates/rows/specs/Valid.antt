@@ -1,7 +1,8 @@
 -- Which calls the table of document 01 allows (else 9), and which events have their fields in range (else 3).
 -- Assumes nothing.
-use Prim.Native.Nat.{ℕ, _^_}
+use Prim.Native.Nat.{ℕ, suc, _^_}
 use mathlib.Core.Bool.{Bool, true, false, _&&_, _||_, not}
+use mathlib.Core.List.{List, [], _∷_}
 use Rattle.rows.specs.Numbers.{day, callingPart, calledPart, durationPart}
 use Rattle.rows.specs.Read.{bit}
 use Rattle.rows.specs.Telephone.{national}
@@ -157,7 +158,17 @@ validOf c =
     placedOf (c .side .role) (c .stand .phase) (c .stand .rev) && (meteredOf (c .side .role) (c .stand .phase) (c .meters)
     && (withinOf (c .meters) && (payingOf (c .side .role) (c .stand .phase) (c .meters .payer) && numbersHeld (c .side))))
 
--- ---- 3: a field out of its range
+-- ---- 3: a field out of its range. 02 #106: "give the field's ordinal in the body as well, first bad field first; a number is one field".
+-- So each kind of record has the list of its body's fields, in order: for each whether it is in range
+
+abbrev pub everyOne : List Bool → Bool
+everyOne [] = true
+everyOne (b ∷ bs) = b && everyOne bs
+
+-- the ordinal of the first that is not, counted from k on; 0 if there is none
+abbrev pub firstFalse : ℕ → List Bool → ℕ
+firstFalse k [] = 0
+firstFalse k (b ∷ bs) = pickℕ b (firstFalse (suc k) bs) k
 
 -- "count 1 to 15", value "below 10 to the count", of either nature
 abbrev pub numberThere : Number → Bool
@@ -171,46 +182,73 @@ abbrev pub numberIf : Bool → Number → Bool
 numberIf b n = (b && numberThere n) || (not b && numberAbsent n)
 
 -- kind 1: role 0 or 1; flags 1 to 16 and their sums; own number
-abbrev pub openingOk : ℕ → ℕ → Number → Bool
-openingOk r f n = leb r 1 && (leb f 31 && numberThere n)
+abbrev pub openingRanges : ℕ → ℕ → Number → List Bool
+openingRanges r f n = leb r 1 ∷ leb f 31 ∷ numberThere n ∷ []
 
 -- kind 2: 0 to 3; "called number for 0 and 1, count 0 for 2 and 3"
-abbrev pub askOk : ℕ → Number → Bool
-askOk q n = leb q 3 && numberIf (leb q 1) n
+abbrev pub askRanges : ℕ → Number → List Bool
+askRanges q n = leb q 3 ∷ numberIf (leb q 1) n ∷ []
 
--- kind 3: "operation (1 SETUP, 2 ACTIVE, 3 CALLED) or error number, else 0"
-abbrev pub componentOk : Component → Bool
-componentOk (Absent n) = eqb n 0
-componentOk (Invoke n) = leb 1 n && leb n 3
-componentOk (Result n) = leb 1 n && leb n 3
-componentOk (Error n) = true
-componentOk (Reject n) = eqb n 0
-componentOk (Unknown k n) = false
+-- kind 3: "component 0 none, 1 invoke, 2 result, 3 error, 4 reject"
+abbrev pub codeOk : Component → Bool
+codeOk (Absent n) = true
+codeOk (Invoke n) = true
+codeOk (Result n) = true
+codeOk (Error n) = true
+codeOk (Reject n) = true
+codeOk (Unknown k n) = false
 
--- "Part 4 without part 2 is a bad field"
-abbrev pub partsOk : ℕ → Bool
-partsOk p = leb p 127 && (bit 2 p || not (bit 4 p))
+-- "operation (1 SETUP, 2 ACTIVE, 3 CALLED) or error number, else 0"; of a component that is none of these nothing is asked
+abbrev pub itemOk : Component → Bool
+itemOk (Absent n) = eqb n 0
+itemOk (Invoke n) = leb 1 n && leb n 3
+itemOk (Result n) = leb 1 n && leb n 3
+itemOk (Error n) = true
+itemOk (Reject n) = eqb n 0
+itemOk (Unknown k n) = true
 
--- kind 3: message 1 to 5; cause 0 to 127; a number or Duration that no part names is not there
-abbrev pub messageOk : Message → Bool
-messageOk m =
-    (leb 1 (m .kind) && leb (m .kind) 5) && (leb (m .cause) 127 && (componentOk (m .component) && (partsOk (m .parts)
-    && (numberIf (bit callingPart (m .parts)) (m .calling) && (numberIf (bit calledPart (m .parts)) (m .called)
-    && (bit durationPart (m .parts) || eqb (m .duration) 0))))))
+-- "Part 4 without part 2 is a bad field"; and a number or Duration is there only where a part names it
+abbrev pub partsOk : Message → Bool
+partsOk m =
+    (leb (m .parts) 127 && (bit 2 (m .parts) || not (bit 4 (m .parts)))) && ((bit callingPart (m .parts) || numberAbsent (m .calling))
+    && ((bit calledPart (m .parts) || numberAbsent (m .called)) && (bit durationPart (m .parts) || eqb (m .duration) 0)))
+
+-- a field that stands in the body where its part is there
+abbrev pub presentThen : Bool → Bool → List Bool → List Bool
+presentThen true ok rest = ok ∷ rest
+presentThen false ok rest = rest
+
+-- "then those present": the calling number, the called number, the Duration, of which four bytes may be any
+abbrev pub carriedRanges : Message → List Bool
+carriedRanges m =
+    presentThen (bit callingPart (m .parts)) (numberThere (m .calling)) (presentThen (bit calledPart (m .parts)) (numberThere (m .called))
+    (presentThen (bit durationPart (m .parts)) true []))
+
+-- kind 3: message 1 to 5; cause 0 to 127; component; operation or error; parts; what they name
+abbrev pub messageRanges : Message → List Bool
+messageRanges m =
+    (leb 1 (m .kind) && leb (m .kind) 5) ∷ leb (m .cause) 127 ∷ codeOk (m .component) ∷ itemOk (m .component) ∷ partsOk m ∷ carriedRanges m
 
 -- kind 4: 1 to 5; "error number, 0 but for 2"
-abbrev pub accessOk : ℕ → ℕ → Bool
-accessOk a n = (leb 1 a && leb a 5) && (eqb a 2 || eqb n 0)
+abbrev pub accessRanges : ℕ → ℕ → List Bool
+accessRanges a n = (leb 1 a && leb a 5) ∷ (eqb a 2 || eqb n 0) ∷ []
 
 -- kind 6: 0 to 86,400 seconds, a day
-abbrev pub timeOk : ℕ → Bool
-timeOk s = leb s day
+abbrev pub timeRanges : ℕ → List Bool
+timeRanges s = leb s day ∷ []
 
--- an event whose fields are in range: else 3
+abbrev pub rangesOf : Event → List Bool
+rangesOf (Opening r f n) = openingRanges r f n
+rangesOf (Ask q n) = askRanges q n
+rangesOf (Received m) = messageRanges m
+rangesOf (FromAccess a n) = accessRanges a n
+rangesOf Expiry = []
+rangesOf (Time s) = timeRanges s
+
+-- an event whose fields are in range: else 3 ..
 abbrev pub eventOk : Event → Bool
-eventOk (Opening r f n) = openingOk r f n
-eventOk (Ask q n) = askOk q n
-eventOk (Received m) = messageOk m
-eventOk (FromAccess a n) = accessOk a n
-eventOk Expiry = true
-eventOk (Time s) = timeOk s
+eventOk e = everyOne (rangesOf e)
+
+-- .. and the ordinal of the first field that is not, from 1; 0 where all are
+abbrev pub badFieldOf : Event → ℕ
+badFieldOf e = firstFalse 1 (rangesOf e)

@@ -13,17 +13,18 @@ mod rows;
 mod step;
 mod telephone;
 mod valid;
+mod why;
 
 use meters::Change;
 use meters::Meters;
 pub use numbers::APPLIED;
 pub use telephone::same_number;
-pub use valid::access_ok;
-pub use valid::ask_ok;
+pub use valid::access_bad;
+pub use valid::ask_bad;
 pub use valid::in_range;
-pub use valid::message_ok;
-pub use valid::opening_ok;
-pub use valid::time_ok;
+pub use valid::message_bad;
+pub use valid::opening_bad;
+pub use valid::time_bad;
 
 pub enum Role {
     Originating,
@@ -188,7 +189,7 @@ pub struct Told {
 // A row of the clause, or the rows of one sentence that differ by flags, transfer or an error number alone.
 // The names O1 .. O40, D1 .. D60 and G1 .. G5 are those of docs/ROWS.md.
 pub enum Row {
-    // no row: 1
+    // no row: 1, 15 or 16
     NoRow,
     // G1
     Opened,
@@ -436,9 +437,11 @@ pub struct Call {
 }
 
 // The answer to an event. The actions stand in order, and the note has what they carry; Nothing among them is none, and a host
-// skips it. A refusal has the call as it stood and no action.
+// skips it. A refusal has the call as it stood and no action. Where the number is 3, field is the ordinal of the event's first field that is
+// out of its range, from 1 as they stand in a record's body; else it is 0.
 pub struct Outcome {
     pub number: u8,
+    pub field: u8,
     pub call: Call,
     pub note: Note,
     pub first: Act,

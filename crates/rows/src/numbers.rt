@@ -4,6 +4,7 @@
 // 01, numbers given back: a row applied, or why not.
 pub const APPLIED: u8 = 0;
 
+// No row in this role at any time.
 pub const NO_ROW: u8 = 1;
 
 pub const TOO_MUCH: u8 = 2;
@@ -15,6 +16,15 @@ pub const PART_ABSENT: u8 = 4;
 pub const NOT_A_CALL: u8 = 9;
 
 pub const NOBODY_PAYS: u8 = 10;
+
+// 02 #106: why there was no row, and what is judged before the fields.
+pub const WRONG_PHASE: u8 = 15;
+
+pub const WRONG_STATE: u8 = 16;
+
+pub const BEFORE_OPENING: u8 = 17;
+
+pub const OPENED_BEFORE: u8 = 18;
 
 // 01, kind 3: messages.
 pub const IAM: u8 = 1;

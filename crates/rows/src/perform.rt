@@ -2,7 +2,7 @@
 // next, its meters by their change.
 ghost use mathlib.Core.Path.{_≡_};
 ghost use Rattle.rows.specs.Perform.{ifThere, secondsIf, noteOf, stoppingOf, isStop, givenAs, standOf, roleBy, orHeld, openedOf};
-ghost use Rattle.rows.specs.Perform.{withNumbers, sideOf, refusedOf, givenOf, followsOf, doesOf, appliesOf, performOf};
+ghost use Rattle.rows.specs.Perform.{withNumbers, sideOf, refusedAt, refusedOf, givenOf, followsOf, doesOf, appliesOf, performOf};
 use crate::ABSENT;
 use crate::Act;
 use crate::Call;
@@ -236,12 +236,13 @@ fn applies(number: u8) -> bool
 }
 
 impl Call {
-    // A refusal: its number, no actions and the call as it stood.
-    pub fn refused(self, number: u8) -> Outcome
-        ensures { λ out. ⌜ out ≡ refusedOf number self ⌝ }
+    // A refusal: its number, beside 3 the bad field's ordinal, no actions and the call as it stood.
+    pub(crate) fn refused_at(self, number: u8, field: u8) -> Outcome
+        ensures { λ out. ⌜ out ≡ refusedAt number field self ⌝ }
     {
         Outcome {
             number: number,
+            field: field,
             call: self,
             note: NO_NOTE,
             first: Act::Nothing,
@@ -249,6 +250,12 @@ impl Call {
             third: Act::Nothing,
             fourth: Act::Nothing,
         }
+    }
+
+    pub fn refused(self, number: u8) -> Outcome
+        ensures { λ out. ⌜ out ≡ refusedOf number self ⌝ }
+    {
+        self.refused_at(number, 0)
     }
 
     // The row applied, with the meters that follow. The Duration sent is the caller's meter as it stood before.
@@ -319,6 +326,7 @@ impl Plan {
         let fourth = given_as(f, stop);
         Outcome {
             number: APPLIED,
+            field: 0,
             call: call,
             note: note,
             first: first,

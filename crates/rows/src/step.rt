@@ -1,6 +1,7 @@
 // One step of a call.
 ghost use mathlib.Core.Path.{_≡_};
-ghost use Rattle.rows.specs.Step.{unopenedCall, totalOf, takesOf, stepOf};
+ghost use Rattle.rows.specs.Step.{unopenedCall, totalOf, takesOf, ifInRange, isOpening, isUnopened, stepOf};
+ghost use Rattle.rows.specs.Valid.{eventOk};
 use crate::ABSENT;
 use crate::Call;
 use crate::Event;
@@ -13,10 +14,13 @@ use crate::Side;
 use crate::Stand;
 use crate::find;
 use crate::numbers::BAD_FIELD;
+use crate::numbers::BEFORE_OPENING;
 use crate::numbers::NOT_A_CALL;
+use crate::numbers::OPENED_BEFORE;
 use crate::read;
 use crate::rows;
 use crate::valid;
+use crate::why;
 use meters::Meters;
 
 impl Call {
@@ -57,7 +61,7 @@ impl Call {
         m.total
     }
 
-    // Find, plan, perform.
+    // Find, plan, perform; where no row was found, say why.
     fn takes(self, e: Event) -> Outcome
         ensures { λ out. ⌜ out ≡ takesOf self e ⌝ }
     {
@@ -70,23 +74,75 @@ impl Call {
         let r = read::read(e);
         let cue = read::cue_of(r);
         let row = find::row_for(role, phase, rev, cue);
-        let terms = read::terms_of(flags, stand, r);
-        let plan = rows::plan_of(row, terms);
-        self.perform(plan, r)
+        if why::is_row(row) {
+            let terms = read::terms_of(flags, stand, r);
+            let plan = rows::plan_of(row, terms);
+            self.perform(plan, r)
+        } else {
+            let n = why::why(role, phase, cue);
+            self.refused(n)
+        }
     }
 
-    // The answer to one event, in any state and for any event: 9, then 3, then 1, 4, 10 and 2, or a row applied.
+    // 3 with the field's ordinal, before any row is looked for.
+    fn ranged(self, e: Event) -> Outcome
+        ensures { λ out. ⌜ out ≡ ifInRange (eventOk e) self e ⌝ }
+    {
+        let field = valid::bad_field(e);
+        if field == 0 {
+            self.takes(e)
+        } else {
+            self.refused_at(BAD_FIELD, field)
+        }
+    }
+
+    // The answer to one event, in any state and for any event: 9, then 17 or 18, then 3, then 1, 15 or 16, then 4, 10 and 2, or a row applied.
     pub fn step(self, e: Event) -> Outcome
         ensures { λ out. ⌜ out ≡ stepOf self e ⌝ }
     {
+        let stand = self.stand;
+        let phase = stand.phase;
         if valid::valid(self) {
-            if valid::event_ok(e) {
-                self.takes(e)
+            if is_unopened(phase) {
+                if is_opening(e) {
+                    self.ranged(e)
+                } else {
+                    self.refused(BEFORE_OPENING)
+                }
             } else {
-                self.refused(BAD_FIELD)
+                if is_opening(e) {
+                    self.refused(OPENED_BEFORE)
+                } else {
+                    self.ranged(e)
+                }
             }
         } else {
             self.refused(NOT_A_CALL)
         }
+    }
+}
+
+fn is_opening(e: Event) -> bool
+    ensures { λ out. ⌜ out ≡ isOpening e ⌝ }
+{
+    match e {
+        Event::Opening(_, _, _) => true,
+        Event::Ask(_, _) => false,
+        Event::Received(_) => false,
+        Event::FromAccess(_, _) => false,
+        Event::Expiry => false,
+        Event::Time(_) => false,
+    }
+}
+
+fn is_unopened(phase: Phase) -> bool
+    ensures { λ out. ⌜ out ≡ isUnopened phase ⌝ }
+{
+    match phase {
+        Phase::Unopened => true,
+        Phase::Null => false,
+        Phase::Setup => false,
+        Phase::Answered => false,
+        Phase::Cleared => false,
     }
 }

@@ -2,8 +2,8 @@
 ghost use mathlib.Core.Path.{_≡_};
 ghost use Rattle.rows.specs.Valid.{idleOnly, originatingSetup, originatingAnswered, destinationSetup, destinationAnswered, placedOf};
 ghost use Rattle.rows.specs.Valid.{tenTo, inRange, unmetered, payerNobody, payerThere, tallied, meteredOf, payingThere, payingOf};
-ghost use Rattle.rows.specs.Valid.{numbersHeld, validOf, numberThere, numberAbsent, numberIf, openingOk, askOk, componentOk, partsOk};
-ghost use Rattle.rows.specs.Valid.{messageOk, accessOk, timeOk, eventOk};
+ghost use Rattle.rows.specs.Valid.{numbersHeld, validOf, numberThere, numberAbsent, numberIf, pickℕ, firstFalse, openingRanges, askRanges};
+ghost use Rattle.rows.specs.Valid.{codeOk, itemOk, partsOk, carriedRanges, messageRanges, accessRanges, timeRanges, badFieldOf};
 use crate::Call;
 use crate::Component;
 use crate::Event;
@@ -290,22 +290,46 @@ fn number_if(there: bool, n: Number) -> bool
     number_absent(n)
 }
 
-pub fn opening_ok(role: u8, flags: u8, own: Number) -> bool
-    ensures { λ out. ⌜ out ≡ openingOk role flags own ⌝ }
+// ---- The ordinal of the first field of the body that is out of its range, from 1; 0 where none is
+
+fn either(test: bool, a: u8, b: u8) -> u8
+    ensures { λ out. ⌜ out ≡ pickℕ test a b ⌝ }
 {
-    let a = number_there(own);
-    (role <= 1) & ((flags <= 31) & a)
+    if test { a } else { b }
 }
 
-pub fn ask_ok(q: u8, n: Number) -> bool
-    ensures { λ out. ⌜ out ≡ askOk q n ⌝ }
+pub fn opening_bad(role: u8, flags: u8, own: Number) -> u8
+    ensures { λ out. ⌜ out ≡ firstFalse 1 (openingRanges role flags own) ⌝ }
 {
-    let a = number_if(q <= 1, n);
-    (q <= 3) & a
+    let there = number_there(own);
+    let third = either(there, 0, 3);
+    let second = either(flags <= 31, third, 2);
+    either(role <= 1, second, 1)
 }
 
-fn component_ok(x: Component) -> bool
-    ensures { λ out. ⌜ out ≡ componentOk x ⌝ }
+pub fn ask_bad(q: u8, n: Number) -> u8
+    ensures { λ out. ⌜ out ≡ firstFalse 1 (askRanges q n) ⌝ }
+{
+    let fits = number_if(q <= 1, n);
+    let second = either(fits, 0, 2);
+    either(q <= 3, second, 1)
+}
+
+fn code_ok(x: Component) -> bool
+    ensures { λ out. ⌜ out ≡ codeOk x ⌝ }
+{
+    match x {
+        Component::Absent(_) => true,
+        Component::Invoke(_) => true,
+        Component::Result(_) => true,
+        Component::Error(_) => true,
+        Component::Reject(_) => true,
+        Component::Unknown(_, _) => false,
+    }
+}
+
+fn item_ok(x: Component) -> bool
+    ensures { λ out. ⌜ out ≡ itemOk x ⌝ }
 {
     match x {
         Component::Absent(n) => n == 0,
@@ -313,52 +337,77 @@ fn component_ok(x: Component) -> bool
         Component::Result(n) => (1 <= n) & (n <= 3),
         Component::Error(_) => true,
         Component::Reject(n) => n == 0,
-        Component::Unknown(_, _) => false,
+        Component::Unknown(_, _) => true,
     }
 }
 
-// Part 4 without part 2 is a bad field.
-fn parts_ok(parts: u8) -> bool
-    ensures { λ out. ⌜ out ≡ partsOk parts ⌝ }
+// Part 4 without part 2 is a bad field; so are parts that do not name a number or Duration which is there.
+fn parts_ok(m: Message) -> bool
+    ensures { λ out. ⌜ out ≡ partsOk m ⌝ }
 {
-    (parts <= 127) & (((parts / 2) % 2 == 1) | !((parts / 4) % 2 == 1))
-}
-
-pub fn message_ok(m: Message) -> bool
-    ensures { λ out. ⌜ out ≡ messageOk m ⌝ }
-{
-    let component = m.component;
+    let parts = m.parts;
     let calling = m.calling;
     let called = m.called;
-    let a = component_ok(component);
-    let b = parts_ok(m.parts);
-    let d = number_if((m.parts / 16) % 2 == 1, calling);
-    let f = number_if((m.parts / 32) % 2 == 1, called);
-    let g = ((m.parts / 64) % 2 == 1) | (m.duration == 0);
-    ((IAM <= m.kind) & (m.kind <= FAC)) & ((m.cause <= 127) & (a & (b & (d & (f & g)))))
+    let a = number_absent(calling);
+    let b = number_absent(called);
+    ((parts <= 127) & (((parts / 2) % 2 == 1) | !((parts / 4) % 2 == 1)))
+        & ((((parts / 16) % 2 == 1) | a)
+            & ((((parts / 32) % 2 == 1) | b) & (((parts / 64) % 2 == 1) | (m.duration == 0))))
 }
 
-pub fn access_ok(a: u8, n: u8) -> bool
-    ensures { λ out. ⌜ out ≡ accessOk a n ⌝ }
+// What the parts name begins with field 6: the calling number, then the called number, which is 6 where it stands alone. The Duration may
+// be any.
+fn carried_bad(m: Message) -> u8
+    ensures { λ out. ⌜ out ≡ firstFalse 6 (carriedRanges m) ⌝ }
 {
-    ((1 <= a) & (a <= 5)) & ((a == 2) | (n == 0))
+    let calling = m.calling;
+    let called = m.called;
+    let a = number_there(calling);
+    let b = number_there(called);
+    let good = !((m.parts / 32) % 2 == 1) | b;
+    let after = either(good, 0, 7);
+    let alone = either(good, 0, 6);
+    let with = either(a, after, 6);
+    either((m.parts / 16) % 2 == 1, with, alone)
 }
 
-pub fn time_ok(seconds: u32) -> bool
-    ensures { λ out. ⌜ out ≡ timeOk seconds ⌝ }
+pub fn message_bad(m: Message) -> u8
+    ensures { λ out. ⌜ out ≡ firstFalse 1 (messageRanges m) ⌝ }
 {
-    seconds <= DAY
+    let component = m.component;
+    let known = code_ok(component);
+    let fits = item_ok(component);
+    let named = parts_ok(m);
+    let carried = carried_bad(m);
+    let fifth = either(named, carried, 5);
+    let fourth = either(fits, fifth, 4);
+    let third = either(known, fourth, 3);
+    let second = either(m.cause <= 127, third, 2);
+    either((IAM <= m.kind) & (m.kind <= FAC), second, 1)
 }
 
-pub(crate) fn event_ok(e: Event) -> bool
-    ensures { λ out. ⌜ out ≡ eventOk e ⌝ }
+pub fn access_bad(a: u8, n: u8) -> u8
+    ensures { λ out. ⌜ out ≡ firstFalse 1 (accessRanges a n) ⌝ }
+{
+    let second = either((a == 2) | (n == 0), 0, 2);
+    either((1 <= a) & (a <= 5), second, 1)
+}
+
+pub fn time_bad(seconds: u32) -> u8
+    ensures { λ out. ⌜ out ≡ firstFalse 1 (timeRanges seconds) ⌝ }
+{
+    either(seconds <= DAY, 0, 1)
+}
+
+pub(crate) fn bad_field(e: Event) -> u8
+    ensures { λ out. ⌜ out ≡ badFieldOf e ⌝ }
 {
     match e {
-        Event::Opening(role, flags, own) => opening_ok(role, flags, own),
-        Event::Ask(q, n) => ask_ok(q, n),
-        Event::Received(m) => message_ok(m),
-        Event::FromAccess(a, n) => access_ok(a, n),
-        Event::Expiry => true,
-        Event::Time(seconds) => time_ok(seconds),
+        Event::Opening(role, flags, own) => opening_bad(role, flags, own),
+        Event::Ask(q, n) => ask_bad(q, n),
+        Event::Received(m) => message_bad(m),
+        Event::FromAccess(a, n) => access_bad(a, n),
+        Event::Expiry => 0,
+        Event::Time(seconds) => time_bad(seconds),
     }
 }

@@ -1,8 +1,9 @@
-//! Counts how often each row and each number was reached, each form of a telephone number, and each way in which the
-//! total and the sum of the meters stand to the limit and to each other.
+//! Counts how often each row and each number was reached, each place and event without a row, each form of a telephone
+//! number, and each way in which the total and the sum of the meters stand to the limit and to each other.
 
-use crate::listing::{Listing, Reached};
-use crate::model::{self, events, Digits, Given, Row, YEAR};
+use crate::listing::{rev_name, Listing, Reached};
+use crate::model::{self, events, states, Digits, Given, Phase, Rev, Role, Row, YEAR};
+use crate::table::{self, event_name, phase_name, role_name, ROLES};
 use crate::write::{part, Event, Nature, Number};
 use std::cmp::Ordering;
 use std::collections::BTreeMap;
@@ -15,7 +16,7 @@ const ROWS: usize = GENERAL + ORIGINATING + DESTINATION;
 
 /// The numbers that a history's listing can give. Number 9 judges calls that a host made up, and 10 needs an
 /// originating call in ANSWERED whose payer is nobody, which no history reaches.
-const NUMBERS: std::ops::RangeInclusive<usize> = 0..=8;
+const NUMBERS: [usize; 13] = [0, 1, 2, 3, 4, 5, 6, 7, 8, 15, 16, 17, 18];
 
 /// The rows that need a part (4), and the rows that add or take seconds (2).
 const NEEDING: [Row; 8] =
@@ -115,12 +116,57 @@ fn of_totals(reached: &Reached) -> Option<usize> {
     }
 }
 
+/// The number of an event without a row and what it came to; after the opening this is a place, with the role.
+fn no_row_name(given: Given, at: Option<(Role, Phase, Rev)>, event: &str) -> String {
+    let place = match at {
+        None => "before the opening".into(),
+        Some((role, phase, rev)) => format!("{}, {} {}", role_name(role), phase_name(phase), rev_name(rev)),
+    };
+    format!("{} {place}, {event}", given as u8)
+}
+
+/// The kinds of records, for those whose fields are out of range.
+const KINDS: [&str; 6] = ["opening", "request", "message", "access", "expiry", "time"];
+
+/// All that has no row: each event in each place of each role, openings among them; and 17 and 18 with a bad field, of which an expiry
+/// has none.
+fn without_rows() -> Vec<String> {
+    let mut names = Vec::new();
+    for role in ROLES {
+        for &(phase, rev) in states(role) {
+            let at = Some((role, phase, rev));
+            for event in table::events() {
+                let number = table::number(role, phase, rev, &event);
+                names.extend(number.map(|given| no_row_name(given, at, &event_name(&event))));
+            }
+            names.extend(["opening", "bad opening"].map(|event| no_row_name(Given::SecondOpening, at, event)));
+        }
+    }
+    names.extend(table::events().iter().map(|event| no_row_name(Given::BeforeOpening, None, &event_name(event))));
+    let bad = KINDS.iter().filter(|kind| !["opening", "expiry"].contains(kind));
+    names.extend(bad.map(|kind| no_row_name(Given::BeforeOpening, None, &format!("bad {kind}"))));
+    names
+}
+
+/// The records of a file, as far as their framing is right.
+fn records(file: &[u8]) -> Vec<&[u8]> {
+    let mut records = Vec::new();
+    let mut rest = file;
+    while let Some(record) = Some(rest).filter(|rest| !rest.is_empty()).and_then(|rest| events::frame(rest).ok()) {
+        let (bytes, after) = rest.split_at(record.size());
+        records.push(bytes);
+        rest = after;
+    }
+    records
+}
+
 pub struct Coverage {
     applied: [u64; ROWS],
     absent: [u64; ROWS],
     too_much: [u64; ROWS],
     after_second_press: [u64; ROWS],
-    numbers: [u64; 11],
+    numbers: [u64; 19],
+    without_rows: BTreeMap<String, u64>,
     totals: [u64; TOTALS.len()],
     /// by what the number is, and by its form
     forms: BTreeMap<(&'static str, &'static str), u64>,
@@ -154,7 +200,8 @@ impl Coverage {
             absent: [0; ROWS],
             too_much: [0; ROWS],
             after_second_press: [0; ROWS],
-            numbers: [0; 11],
+            numbers: [0; 19],
+            without_rows: without_rows().into_iter().map(|name| (name, 0)).collect(),
             totals: [0; TOTALS.len()],
             forms: FIELDS.iter().flat_map(|field| FORMS.map(|form| ((*field, form), 0))).collect(),
             sent: BTreeMap::new(),
@@ -170,6 +217,7 @@ impl Coverage {
             return;
         };
         self.count_forms(file);
+        self.count_without_rows(file, listing);
         let mut pressed = false;
         for reached in &listing.reached {
             let given = reached.given;
@@ -197,13 +245,29 @@ impl Coverage {
 
     /// The telephone numbers of the records, read or refused.
     fn count_forms(&mut self, file: &[u8]) {
-        let mut rest = file;
-        while let Some(record) = Some(rest).filter(|rest| !rest.is_empty()).and_then(|rest| events::frame(rest).ok()) {
-            let (bytes, after) = rest.split_at(record.size());
-            for (field, number) in numbers(&Event::of_record(bytes)) {
+        for record in records(file) {
+            for (field, number) in numbers(&Event::of_record(record)) {
                 *self.forms.entry((field, form(number))).or_default() += 1;
             }
-            rest = after;
+        }
+    }
+
+    fn count_without_rows(&mut self, file: &[u8], listing: &Listing) {
+        for (record, reached) in records(file).into_iter().zip(&listing.reached) {
+            let Reached { given, call, event, .. } = reached;
+            if !Given::NO_ROW.contains(given) {
+                continue;
+            }
+            let name = match event {
+                Some(event) => event_name(event),
+                None => format!("bad {}", KINDS[usize::from(record[2]) - 1]),
+            };
+            // What a state remembers is no part of a place.
+            let at = states(call.role)
+                .iter()
+                .find(|(phase, rev)| *phase == call.phase && rev_name(*rev) == rev_name(call.rev))
+                .map(|&(phase, rev)| (call.role, phase, rev));
+            *self.without_rows.entry(no_row_name(*given, at, &name)).or_default() += 1;
         }
     }
 
@@ -215,7 +279,7 @@ impl Coverage {
     }
 
     /// Everything that histories can reach, with its count: rows, numbers, rows with the number they can give, the total
-    /// beside the sum of the meters, and telephone numbers as they are read and as they are sent.
+    /// beside the sum of the meters, telephone numbers as they are read and as they are sent, and what has no row.
     fn all(&self) -> Vec<(String, u64)> {
         let rows = self.applied.iter().enumerate().map(|(place, &count)| (label(place), count));
         let numbers = NUMBERS.map(|number| (format!("number {number}"), self.numbers[number]));
@@ -231,7 +295,10 @@ impl Coverage {
                 (format!("{row} sends {part} {form}"), count)
             })
         });
-        rows.chain(numbers).chain(absent).chain(too_much).chain(totals).chain(ended).chain(forms).chain(sent).collect()
+        let mut all: Vec<(String, u64)> = rows.chain(numbers).chain(absent).chain(too_much).collect();
+        all.extend(totals.chain(ended).chain(forms).chain(sent));
+        all.extend(self.without_rows.iter().map(|(name, &count)| (name.clone(), count)));
+        all
     }
 
     /// What was never reached.
@@ -242,6 +309,7 @@ impl Coverage {
     pub fn report(&self) -> String {
         let all = self.all();
         let (rows, others) = all.split_at(ROWS);
+        let (others, without_rows) = others.split_at(others.len() - self.without_rows.len());
         let mut text = format!("coverage of {} files\n", self.files);
         for row in rows.chunks(8) {
             let cells: Vec<String> = row.iter().map(|(name, count)| format!("{name:>3} {count:<9}")).collect();
@@ -250,9 +318,10 @@ impl Coverage {
         for (name, count) in others {
             let _ = writeln!(text, "{name}: {count}");
         }
-        for (what, part) in [("row", rows), ("other", others)] {
+        let _ = writeln!(text, "events without a row, by number, role and place: {}", without_rows.len());
+        for (what, part) in [("row", rows), ("other", others), ("event without a row", without_rows)] {
             let least = part.iter().min_by_key(|(_, count)| count);
-            let (name, count) = least.expect("neither part is empty");
+            let (name, count) = least.expect("no part is empty");
             let _ = writeln!(text, "least reached {what}: {name}, {count} times");
         }
         let missing = self.missing();

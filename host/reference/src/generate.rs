@@ -32,6 +32,7 @@ pub fn file(seed: u64, ordinal: u64) -> Vec<u8> {
         }
         170..=199 => pressed_again(random),
         200..=204 => another_duration(random),
+        205..=264 => without_rows(random),
         _ => history(random),
     }
 }
@@ -49,8 +50,8 @@ impl<'r> Writer<'r> {
     }
 
     fn push(&mut self, record: Vec<u8>) {
-        if let Some(event) = events::frame(&record).ok().and_then(|record| record.event()) {
-            self.call = self.call.answer(&event).call;
+        if let Ok(record) = events::frame(&record) {
+            self.call = self.call.take(&record).1.call;
         }
         self.bytes.extend(record);
     }
@@ -73,6 +74,25 @@ impl<'r> Writer<'r> {
             }
         };
         self.push(record);
+    }
+
+    /// Events that have no row at the call as it is, openings and bad fields among them: none of them changes it. They
+    /// are more where a history seldom comes.
+    fn knock(&mut self) {
+        let times = if self.call.rev == Rev::Idle { 24 } else { 72 };
+        for _ in 0..times {
+            let mut record = match self.random.below(12) {
+                0 => fields::opening(self.random),
+                _ => wanted::any(self.random),
+            };
+            if self.random.below(8) == 0 {
+                fields::spoil(self.random, &mut record);
+            }
+            let framed = events::frame(&record).expect("right framing");
+            if self.call.take(&framed).1.row.is_none() {
+                self.push(record);
+            }
+        }
     }
 
     fn days(&mut self, count: u64) {
@@ -159,6 +179,23 @@ fn pressed_again(random: &mut Random) -> Vec<u8> {
         }
         writer.step();
     }
+    writer.bytes
+}
+
+/// A history in which, wherever the call has come, events are tried that have no row there (02 #106).
+fn without_rows(random: &mut Random) -> Vec<u8> {
+    let steps = 2 + random.below(10);
+    let mut writer = Writer::new(random);
+    writer.knock();
+    writer.open();
+    for _ in 0..steps {
+        writer.knock();
+        writer.step();
+    }
+    if writer.random.below(2) == 0 {
+        writer.draw(wanted::clearing);
+    }
+    writer.knock();
     writer.bytes
 }
 

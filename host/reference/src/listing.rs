@@ -2,7 +2,8 @@
 
 use crate::model::events::LONGEST_FILE;
 use crate::model::{
-    Action, Answer, Component, Digits, Event, Given, History, Message, Name, Nature, Operation, Phase, Rev, Row, Shown,
+    Action, Answer, Call, Component, Digits, Event, Given, History, Message, Name, Nature, Operation, Phase, Rev, Row,
+    Shown,
 };
 use std::io::Write;
 
@@ -19,7 +20,8 @@ pub struct Listing {
 }
 
 /// Of a record its number, the row it was judged by, the numbers that were sent, and the sum of the meters and the
-/// total after it. Where 2 was given for time, these are what they would have been.
+/// total after it. Where 2 was given for time, these are what they would have been. Then the call after it, which where
+/// it was refused is the one that it came to, and the event, if all its fields are in range.
 pub struct Reached {
     pub given: Given,
     pub row: Option<Row>,
@@ -27,6 +29,8 @@ pub struct Reached {
     pub called: Option<Digits>,
     pub sum: u64,
     pub total: u64,
+    pub call: Call,
+    pub event: Option<Event>,
 }
 
 impl Reached {
@@ -43,6 +47,8 @@ impl Reached {
             called: None,
             sum: call.sum() + refused,
             total: u64::from(call.total) + refused,
+            call: *call,
+            event: shown.event,
         };
         for action in actions {
             if let Action::Send(message) = action {
@@ -104,7 +110,7 @@ fn phase_name(phase: Phase) -> &'static str {
     }
 }
 
-fn rev_name(rev: Rev) -> &'static str {
+pub fn rev_name(rev: Rev) -> &'static str {
     match rev {
         Rev::Idle => "IDLE",
         Rev::WaitSetup => "WAIT-SETUP",

@@ -6,6 +6,7 @@ mod generate;
 mod listing;
 mod model;
 mod server;
+mod table;
 mod tally;
 mod undump;
 mod wire;
@@ -27,6 +28,7 @@ const USAGE: &str = "usage:
                                                  compares how COMMAND reads and writes N parameters with the model
   reference wire C|P OCTETS.. | W ROOM WORDS..   the answer to a component or a parameter, as tests/wire.txt has them
   reference coverage --count N --seed S          how often N files reach each row, number and nature
+  reference table                                why there was no row, as docs/ROWS.md has it
   reference undump FILE < DUMP                   whether a dump is FILE's: it is read back
   reference generate --count N --seed S --out DIR
                                                  writes N files
@@ -96,6 +98,11 @@ fn run(words: &[String]) -> Result<bool, Trouble> {
             }
             print!("{}", coverage.report());
             Ok(coverage.missing().is_empty())
+        }
+        "table" => {
+            Options::read(rest, &[])?;
+            print!("{}", table::table());
+            Ok(true)
         }
         "undump" => {
             let [path] = rest else { return Err(Trouble(USAGE.into())) };

@@ -10,7 +10,7 @@ mod destination;
 pub mod events;
 mod originating;
 
-pub use events::{Access, Ask, Component, Digits, Event, Message, Name, Nature, Operation, Parts, Role};
+pub use events::{Access, Ask, Component, Digits, Event, Message, Name, Nature, Operation, Parts, Record, Role};
 
 /// 01, "Numbers given back", 2: what the sum of the meters, or a Duration that a row uses, may not pass; and 02 #104:
 /// "2 also where the total would pass that limit".
@@ -56,7 +56,9 @@ pub mod cause {
     pub const TIMER: u8 = 102;
 }
 
-/// 01, "Numbers given back". Number 8 belongs to the listing, number 9 to hosts.
+/// 01, "Numbers given back", and 02 #106: "1 stays for an event that has no row in this role at any time; 15 is for the
+/// wrong phase (the role has a row only in another phase); 16 for the wrong REV state (the role has a row in this phase).
+/// An event before the opening gets 17 and a second opening 18." Number 8 belongs to the listing, number 9 to hosts.
 #[derive(Clone, Copy, PartialEq, Eq, Debug)]
 #[repr(u8)]
 pub enum Given {
@@ -69,6 +71,16 @@ pub enum Given {
     BadLength = 6,
     UnknownKind = 7,
     NobodyPays = 10,
+    WrongPhase = 15,
+    WrongState = 16,
+    BeforeOpening = 17,
+    SecondOpening = 18,
+}
+
+impl Given {
+    /// The five by which 02 #106 tells why there was no row.
+    pub const NO_ROW: [Given; 5] =
+        [Given::NoRow, Given::WrongPhase, Given::WrongState, Given::BeforeOpening, Given::SecondOpening];
 }
 
 /// 01, "States and payers". NONE is the phase before the opening.
@@ -160,8 +172,8 @@ pub struct Answer {
     pub actions: Vec<Action>,
 }
 
-/// Why a well-formed event is refused. The order is 1, 4, 10, 2: a row is found first, then its parts are looked
-/// for, then the payer, then the sums.
+/// Why a well-formed event is refused. The order is 17 or 18; 1, 15 or 16; 4, 10, 2: a row is found first, then its parts
+/// are looked for, then the payer, then the sums.
 #[derive(Clone, Copy, PartialEq, Eq, Debug)]
 enum Refusal {
     NoRow,
@@ -293,10 +305,51 @@ impl Call {
         let refused = |given, row| Answer { given, row, call: self, actions: Vec::new() };
         match self.find(event) {
             Ok(step) => Answer { given: Given::Applied, row: Some(step.row), call: step.call, actions: step.actions },
-            Err(Refusal::NoRow) => refused(Given::NoRow, None),
+            Err(Refusal::NoRow) => {
+                refused(self.misplaced(event.is_opening()).unwrap_or_else(|| self.why_no_row(event)), None)
+            }
             Err(Refusal::PartAbsent(row)) => refused(Given::PartAbsent, Some(row)),
             Err(Refusal::NobodyPays(row)) => refused(Given::NobodyPays, Some(row)),
             Err(Refusal::TooMuch(row)) => refused(Given::TooMuch, Some(row)),
+        }
+    }
+
+    /// 17 and 18, which hang on the record's kind alone: "17 and 18 before 3". A cleared call was opened too.
+    fn misplaced(&self, opening: bool) -> Option<Given> {
+        match (self.phase, opening) {
+            (Phase::None, false) => Some(Given::BeforeOpening),
+            (Phase::None, true) | (_, false) => None,
+            (_, true) => Some(Given::SecondOpening),
+        }
+    }
+
+    /// The call that follows a record whose framing is right, with its event where all fields are in range: 17 or 18,
+    /// then 3, then what the event gets.
+    pub fn take(self, record: &Record) -> (Option<Event>, Answer) {
+        let refused = |given| Answer { given, row: None, call: self, actions: Vec::new() };
+        let event = record.event();
+        match (self.misplaced(record.is_opening()), &event) {
+            (Some(given), _) => (event.ok(), refused(given)),
+            (None, Err(_)) => (None, refused(Given::OutOfRange)),
+            (None, Ok(event)) => (Some(*event), self.answer(event)),
+        }
+    }
+
+    /// Why an opened call has no row for an event: the rows are asked again, first in every REV state of its phase, then
+    /// in every phase.
+    fn why_no_row(&self, event: &Event) -> Given {
+        let found = |of_phase: &dyn Fn(Phase) -> bool| {
+            states(self.role)
+                .iter()
+                .filter(|(phase, _)| of_phase(*phase))
+                .any(|&(phase, rev)| Call { phase, rev, ..*self }.find(event) != Err(Refusal::NoRow))
+        };
+        if found(&|phase| phase == self.phase) {
+            Given::WrongState
+        } else if found(&|_| true) {
+            Given::WrongPhase
+        } else {
+            Given::NoRow
         }
     }
 
@@ -306,9 +359,7 @@ impl Call {
                 let opened = Call { role: *role, flags: *flags, own: *own, ..self };
                 Ok(opened.row(Row::G(1)).state(Phase::Null, Rev::Idle))
             }
-            // 1: "an event before the opening, or a second opening".
-            (Phase::None, _) | (_, Event::Opening { .. }) => Err(Refusal::NoRow),
-            (Phase::Cleared, _) => Err(Refusal::NoRow),
+            (Phase::None | Phase::Cleared, _) | (_, Event::Opening { .. }) => Err(Refusal::NoRow),
             _ => {
                 let own_row = match self.role {
                     Role::Originating => originating::find(self, event),
@@ -358,6 +409,35 @@ impl Call {
         *meter += seconds;
         step.call.total += seconds;
         Ok(step)
+    }
+}
+
+/// The REV states of a role in each phase. What a state remembers decides what a row does, and not whether there is one.
+pub fn states(role: Role) -> &'static [(Phase, Rev)] {
+    use Phase::{Answered, Cleared, Null, Setup};
+    match role {
+        Role::Originating => &[
+            (Null, Rev::Idle),
+            (Setup, Rev::Idle),
+            (Setup, Rev::WaitSetup),
+            (Setup, Rev::WaitAnswer { transfer: false }),
+            (Answered, Rev::Idle),
+            (Answered, Rev::WaitActive),
+            (Answered, Rev::Active),
+            (Cleared, Rev::Idle),
+        ],
+        Role::Destination => &[
+            (Null, Rev::Idle),
+            (Setup, Rev::Idle),
+            (Setup, Rev::WaitSetupConf { transfer: false }),
+            (Setup, Rev::WaitCalled(Case::D)),
+            (Setup, Rev::WaitAnswer { transfer: false }),
+            (Answered, Rev::Idle),
+            (Answered, Rev::WaitActiveConf { transfer: false }),
+            (Answered, Rev::WaitCalled(Case::B)),
+            (Answered, Rev::Active),
+            (Cleared, Rev::Idle),
+        ],
     }
 }
 
@@ -411,14 +491,11 @@ impl Iterator for History<'_> {
             }
             Ok(record) => {
                 self.file = &self.file[record.size()..];
-                match record.event() {
-                    None => (None, unread(Given::OutOfRange)),
-                    Some(event) => {
-                        let answer = self.call.answer(&event);
-                        self.count(&event, &answer);
-                        (Some(event), answer)
-                    }
+                let (event, answer) = self.call.take(&record);
+                if let Some(event) = &event {
+                    self.count(event, &answer);
                 }
+                (event, answer)
             }
         };
         self.call = answer.call;
@@ -495,7 +572,7 @@ mod tests {
         assert_eq!(answer.row, Some(Row::O(14)));
     }
 
-    /// 01, "Calls to try": the last second that fits; 2 for one more; 1 for an expiry in IDLE.
+    /// 01, "Calls to try": the last second that fits; 2 for one more; no row for an expiry in IDLE.
     #[test]
     fn a_year_of_seconds() {
         let mut call = after(opened(Role::Originating, 0), &[Event::Ask(Ask::Basic), plain(Name::Con)]);
@@ -506,7 +583,7 @@ mod tests {
         assert_eq!(call.answer(&Event::Time(0)).given, Given::Applied);
         let past = call.answer(&Event::Time(1));
         assert_eq!((past.given, past.call), (Given::TooMuch, call));
-        assert_eq!(call.answer(&Event::Expiry).given, Given::NoRow);
+        assert_eq!(call.answer(&Event::Expiry).given, Given::WrongState);
     }
 
     /// 4 comes before 2: a result to CALLED in case C with a Duration that is too long, and no calling number.

@@ -94,6 +94,12 @@ impl Message {
         }
     }
 
+    /// The ordinal of what this part brings, "a number is one field": five fields are before those that the parts name.
+    fn place_of(&self, part: u8) -> Option<u32> {
+        let before = [part::CALLING, part::CALLED, part::DURATION].into_iter().filter(|p| *p < part && self.names(*p));
+        self.names(part).then(|| 6 + before.count() as u32)
+    }
+
     /// "4 its answer is transfer (not without 2)"; 128 is no part.
     fn parts_in_range(&self) -> bool {
         !self.names(128) && (!self.names(4) || self.names(2))
@@ -124,12 +130,35 @@ pub enum Event {
     Time { seconds: u32 },
 }
 
-/// 02 #102: "Refusals: 3, then 8."
+/// 02 #102: "Refusals: 3, then 8." And 02 #106: "Where 3 is told, give the field's ordinal in the body as well".
 #[derive(Clone, Copy, PartialEq, Eq, Debug)]
-#[repr(u8)]
 pub enum Refusal {
-    BadField = 3,
-    NoRoom = 8,
+    /// from 1; 0 where no field of it is to blame
+    BadField {
+        ordinal: u32,
+    },
+    NoRoom,
+}
+
+impl Refusal {
+    pub fn number(self) -> u8 {
+        match self {
+            Refusal::BadField { .. } => 3,
+            Refusal::NoRoom => 8,
+        }
+    }
+
+    pub fn ordinal(self) -> u32 {
+        match self {
+            Refusal::BadField { ordinal } => ordinal,
+            Refusal::NoRoom => 0,
+        }
+    }
+
+    /// Both in one number, as a C host gets them.
+    pub fn given(self) -> u32 {
+        u32::from(self.number()) + 256 * self.ordinal()
+    }
 }
 
 impl Event {
@@ -144,32 +173,49 @@ impl Event {
         }
     }
 
-    /// The names of the fields that are out of their range, in the order of the record.
-    pub fn bad_fields(&self) -> Vec<&'static str> {
+    /// The fields that are out of their range, in the order of the record: the ordinal of each in the body and its name.
+    fn out_of_range(&self) -> Vec<(u32, &'static str)> {
         let fields = match *self {
             Event::Opening { role, flags, own } => {
-                vec![("role", role <= 1), ("flags", flags < 32), ("number", own.fits(true))]
+                vec![(1, "role", role <= 1), (2, "flags", flags < 32), (3, "number", own.fits(true))]
             }
             Event::Request { request, called } => {
-                vec![("request", request <= 3), ("number", called.fits(request <= 1))]
+                vec![(1, "request", request <= 3), (2, "number", called.fits(request <= 1))]
             }
-            Event::Message(message) => vec![
-                ("message", (1..=5).contains(&message.message)),
-                ("cause", message.cause <= 127),
-                ("component", message.component <= 4),
-                ("item", message.item_in_range()),
-                ("parts", message.parts_in_range()),
-                ("calling number", message.calling.fits(message.names(part::CALLING))),
-                ("called number", message.called.fits(message.names(part::CALLED))),
-                ("duration", message.names(part::DURATION) || message.duration == 0),
-            ],
+            Event::Message(message) => {
+                // What the parts do not name, and yet is there, is a fault of the parts.
+                let place = |part| message.place_of(part).unwrap_or(5);
+                vec![
+                    (1, "message", (1..=5).contains(&message.message)),
+                    (2, "cause", message.cause <= 127),
+                    (3, "component", message.component <= 4),
+                    (4, "item", message.item_in_range()),
+                    (5, "parts", message.parts_in_range()),
+                    (place(part::CALLING), "calling number", message.calling.fits(message.names(part::CALLING))),
+                    (place(part::CALLED), "called number", message.called.fits(message.names(part::CALLED))),
+                    (place(part::DURATION), "duration", message.names(part::DURATION) || message.duration == 0),
+                ]
+            }
             Event::Access { told, error } => {
-                vec![("told", (1..=5).contains(&told)), ("error", told == 2 || error == 0)]
+                vec![(1, "told", (1..=5).contains(&told)), (2, "error", told == 2 || error == 0)]
             }
             Event::Expiry => vec![],
-            Event::Time { seconds } => vec![("seconds", seconds <= 86_400)],
+            Event::Time { seconds } => vec![(1, "seconds", seconds <= 86_400)],
         };
-        fields.into_iter().filter(|(_, good)| !good).map(|(name, _)| name).collect()
+        fields.into_iter().filter(|(_, _, good)| !good).map(|(ordinal, name, _)| (ordinal, name)).collect()
+    }
+
+    /// The names of the fields that are out of their range, in the order of the record.
+    pub fn bad_fields(&self) -> Vec<&'static str> {
+        self.out_of_range().into_iter().map(|(_, name)| name).collect()
+    }
+
+    /// The ordinals of these fields, the first first.
+    pub fn bad_ordinals(&self) -> Vec<u32> {
+        let mut ordinals: Vec<u32> = self.out_of_range().into_iter().map(|(ordinal, _)| ordinal).collect();
+        ordinals.sort();
+        ordinals.dedup();
+        ordinals
     }
 
     /// The record, whether its fields are in range or not.
@@ -193,8 +239,8 @@ impl Event {
 
     /// The record, in a room of so many bytes.
     pub fn write(&self, room: usize) -> Result<Vec<u8>, Refusal> {
-        if !self.bad_fields().is_empty() {
-            return Err(Refusal::BadField);
+        if let [ordinal, ..] = self.bad_ordinals()[..] {
+            return Err(Refusal::BadField { ordinal });
         }
         let record = self.record();
         if record.len() > room {
@@ -351,55 +397,94 @@ mod tests {
             Event::Message(message)
         };
         let cases = [
-            ("role", opening(2, 31, HOME)),
-            ("flags", opening(1, 32, HOME)),
-            ("number", opening(1, 0, Number::ABSENT)),
-            ("number", opening(1, 0, Number::national(0, 1))),
-            ("number", opening(1, 0, Number::national(1, 10))),
-            ("number", opening(1, 0, Number::national(15, MOST.value + 1))),
-            ("number", opening(1, 0, Number::national(16, 0))),
-            ("number", opening(1, 0, Number::national(0x87, 5_550_100))),
-            ("number", opening(1, 0, Number::national(255, u64::MAX))),
-            ("number", opening(1, 0, Number::international(0, 0))),
-            ("number", opening(1, 0, Number::international(1, 10))),
-            ("number", opening(1, 0, Number::international(16, 0))),
-            ("number", opening(1, 0, Number::international(0x87, 5_550_100))),
-            ("request", request(4, Number::ABSENT)),
-            ("number", request(0, Number::ABSENT)),
-            ("number", request(1, Number::international(0, 0))),
-            ("number", request(2, Number::national(0, 1))),
-            ("number", request(2, Number::international(0, 0))),
-            ("number", request(3, Number::national(1, 0))),
-            ("message", message(|m| m.message = 0)),
-            ("message", message(|m| m.message = 6)),
-            ("cause", message(|m| m.cause = 128)),
-            ("component", message(|m| m.component = 5)),
-            ("item", message(|m| m.item = 1)),
-            ("item", full(|m| m.item = 0)),
-            ("item", full(|m| m.item = 4)),
-            ("item", full(|m| (m.component, m.item) = (4, 3))),
-            ("parts", message(|m| m.parts = 128)),
-            ("parts", message(|m| m.parts = 4)),
-            ("calling number", full(|m| m.calling = Number::ABSENT)),
-            ("calling number", full(|m| m.parts &= !part::CALLING)),
-            ("called number", full(|m| m.called.value += 1)),
-            ("called number", message(|m| m.called.count = 1)),
-            ("called number", message(|m| m.called.nature = Nature::International)),
-            ("calling number", message(|m| m.calling.nature = Nature::International)),
-            ("calling number", full(|m| m.calling = Number::international(0, 0))),
-            ("called number", full(|m| m.called.count = 0x8F)),
-            ("duration", full(|m| m.parts &= !part::DURATION)),
-            ("told", access(0, 0)),
-            ("told", access(6, 0)),
-            ("error", access(1, 1)),
-            ("seconds", time(86_401)),
+            (1, "role", opening(2, 31, HOME)),
+            (2, "flags", opening(1, 32, HOME)),
+            (3, "number", opening(1, 0, Number::ABSENT)),
+            (3, "number", opening(1, 0, Number::national(0, 1))),
+            (3, "number", opening(1, 0, Number::national(1, 10))),
+            (3, "number", opening(1, 0, Number::national(15, MOST.value + 1))),
+            (3, "number", opening(1, 0, Number::national(16, 0))),
+            (3, "number", opening(1, 0, Number::national(0x87, 5_550_100))),
+            (3, "number", opening(1, 0, Number::national(255, u64::MAX))),
+            (3, "number", opening(1, 0, Number::international(0, 0))),
+            (3, "number", opening(1, 0, Number::international(1, 10))),
+            (3, "number", opening(1, 0, Number::international(16, 0))),
+            (3, "number", opening(1, 0, Number::international(0x87, 5_550_100))),
+            (1, "request", request(4, Number::ABSENT)),
+            (2, "number", request(0, Number::ABSENT)),
+            (2, "number", request(1, Number::international(0, 0))),
+            (2, "number", request(2, Number::national(0, 1))),
+            (2, "number", request(2, Number::international(0, 0))),
+            (2, "number", request(3, Number::national(1, 0))),
+            (1, "message", message(|m| m.message = 0)),
+            (1, "message", message(|m| m.message = 6)),
+            (2, "cause", message(|m| m.cause = 128)),
+            (3, "component", message(|m| m.component = 5)),
+            (4, "item", message(|m| m.item = 1)),
+            (4, "item", full(|m| m.item = 0)),
+            (4, "item", full(|m| m.item = 4)),
+            (4, "item", full(|m| (m.component, m.item) = (4, 3))),
+            (5, "parts", message(|m| m.parts = 128)),
+            (5, "parts", message(|m| m.parts = 4)),
+            (6, "calling number", full(|m| m.calling = Number::ABSENT)),
+            (5, "calling number", full(|m| m.parts &= !part::CALLING)),
+            (7, "called number", full(|m| m.called.value += 1)),
+            (5, "called number", message(|m| m.called.count = 1)),
+            (5, "called number", message(|m| m.called.nature = Nature::International)),
+            (5, "calling number", message(|m| m.calling.nature = Nature::International)),
+            (6, "calling number", full(|m| m.calling = Number::international(0, 0))),
+            (7, "called number", full(|m| m.called.count = 0x8F)),
+            (5, "duration", full(|m| m.parts &= !part::DURATION)),
+            (1, "told", access(0, 0)),
+            (1, "told", access(6, 0)),
+            (2, "error", access(1, 1)),
+            (1, "seconds", time(86_401)),
         ];
-        for (field, event) in cases {
+        for (ordinal, field, event) in cases {
             assert_eq!(event.bad_fields(), [field], "{event:?}");
             for room in [0, event.size() - 1, event.size(), 40] {
-                assert_eq!(event.write(room), Err(Refusal::BadField), "{event:?} in {room} bytes");
+                assert_eq!(event.write(room), Err(Refusal::BadField { ordinal }), "{event:?} in {room} bytes");
             }
         }
+    }
+
+    /// "first bad field first": what the parts do not name is a fault of the parts, so it is before the numbers that they do.
+    #[test]
+    fn the_first_bad_field() {
+        let bad = Number::national(16, 0);
+        let wrong = Message {
+            message: 0,
+            cause: 128,
+            component: 5,
+            item: 9,
+            parts: 0x74,
+            calling: bad,
+            called: bad,
+            duration: 1,
+        };
+        let named = |parts| Message { parts, duration: 0, ..FULL };
+        let cases = [
+            (1, opening(2, 32, bad)),
+            (2, opening(1, 32, bad)),
+            (1, request(4, bad)),
+            (1, access(6, 1)),
+            (1, Event::Message(wrong)),
+            (2, Event::Message(Message { message: 1, ..wrong })),
+            (3, Event::Message(Message { message: 1, cause: 0, ..wrong })),
+            (4, Event::Message(Message { message: 1, cause: 0, component: 1, ..wrong })),
+            (5, Event::Message(Message { message: 1, cause: 0, component: 3, ..wrong })),
+            (6, Event::Message(Message { message: 1, cause: 0, component: 3, parts: 0x70, ..wrong })),
+            (7, Event::Message(Message { called: bad, ..named(0x70) })),
+            (6, Event::Message(Message { called: bad, calling: Number::ABSENT, ..named(0x60) })),
+            (5, Event::Message(Message { called: bad, ..named(0x60) })),
+            (5, Event::Message(Message { calling: bad, ..named(0x50) })),
+            (5, Event::Message(Message { calling: bad, duration: 1, ..named(0x30) })),
+        ];
+        for (ordinal, event) in cases {
+            assert_eq!(event.write(0), Err(Refusal::BadField { ordinal }), "{event:?}");
+        }
+        assert_eq!(Refusal::BadField { ordinal: 5 }.given(), 3 + 5 * 256);
+        assert_eq!(Refusal::NoRoom.given(), 8);
     }
 
     /// Every byte of a field and every number around its bounds are judged as the reader judges them.
@@ -408,7 +493,7 @@ mod tests {
         let judged = |event: Event| {
             let record = event.record();
             let read = crate::model::events::frame(&record).expect("right framing").event();
-            assert_eq!(event.bad_fields().is_empty(), read.is_some(), "{event:?}");
+            assert_eq!(event.bad_ordinals().first().copied(), read.err().map(|ordinal| ordinal as u32), "{event:?}");
         };
         for byte in 0..=255 {
             judged(opening(byte, 0, HOME));

@@ -97,16 +97,17 @@ fn four_bytes(input: &mut impl Read) -> std::io::Result<u32> {
     Ok(u32::from_le_bytes(bytes))
 }
 
-/// Whether the answer is the model's: the number, every byte of the buffer, and a record that is read back as the event. If not, what
-/// differs.
+/// Whether the answer is the model's: the number with the ordinal of a bad field, every byte of the buffer, and a record that is read back
+/// as the event. If not, what differs.
 fn judge(event: &Event, before: &[u8], answer: &Answer) -> Result<(), String> {
     let (given, record) = match event.write(before.len()) {
         Ok(record) => (0, record),
-        Err(refusal) => (refusal as u32, vec![]),
+        Err(refusal) => (refusal.given(), vec![]),
     };
     let after = [&record, &before[record.len()..]].concat();
     if answer.given != given {
-        return Err(format!("expected number {given}, got {}", answer.given));
+        let number = |given: u32| format!("number {} with {}", given % 256, given / 256);
+        return Err(format!("expected {}, got {}", number(given), number(answer.given)));
     }
     if answer.after != after {
         return Err(format!("expected {}\ngot      {}", hex(&after), hex(&answer.after)));
@@ -163,14 +164,14 @@ mod tests {
         assert!(receive(&mut [0, 0, 0, 0, 255, 255, 255, 255].as_slice(), 0).is_err());
     }
 
-    /// One wrong thing each: the number, a byte of the record, a byte past it, a byte on a refusal, the words.
+    /// One wrong thing each: the number, the ordinal, a byte of the record, a byte past it, a byte on a refusal, the words.
     #[test]
     fn answers_are_judged() {
         let (lent, dump) = ([1, 2, 3, 4, 5, 6, 7, 8, 9], "RECORDS 1\n1 0 TIME 60\n");
         let written = [6, 0, 6, 0, 60, 0, 0, 0, 9];
         assert_eq!(judge(&TIME, &lent, &answer(0, &written, dump)), Ok(()));
         assert_eq!(judge(&TIME, &lent[..7], &answer(8, &lent[..7], "")), Ok(()));
-        assert_eq!(judge(&Event::Time { seconds: 86_401 }, &lent[..7], &answer(3, &lent[..7], "")), Ok(()));
+        assert_eq!(judge(&Event::Time { seconds: 86_401 }, &lent[..7], &answer(259, &lent[..7], "")), Ok(()));
         for wrong in [
             answer(8, &lent, ""),
             answer(256, &written, dump),
@@ -184,6 +185,8 @@ mod tests {
         }
         assert!(judge(&TIME, &lent[..7], &answer(8, &written[..7], "")).is_err());
         assert!(judge(&TIME, &lent[..7], &answer(8, &lent[..7], dump)).is_err());
-        assert!(judge(&Event::Time { seconds: 86_401 }, &lent[..7], &answer(8, &lent[..7], "")).is_err());
+        for wrong in [8, 3, 3 + 512] {
+            assert!(judge(&Event::Time { seconds: 86_401 }, &lent[..7], &answer(wrong, &lent[..7], "")).is_err());
+        }
     }
 }

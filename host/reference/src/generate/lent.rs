@@ -18,7 +18,8 @@ fn event(random: &mut Random) -> Event {
         0..=9 => Event::of_record(&fields::any(random)),
         10..=14 => spoilt(random, 1),
         15 => spoilt(random, 2),
-        16..=17 => unnamed(random),
+        16 => unnamed(random),
+        17 => unnamed_and_spoilt(random),
         18 => large_count(random),
         _ => wild(random),
     }
@@ -54,6 +55,22 @@ fn unnamed(random: &mut Random) -> Event {
             message.parts &= !part::DURATION;
             message.duration = random.duration().max(1);
         }
+    }
+    Event::Message(message)
+}
+
+/// The same, and a field before it or a number after it is bad too.
+fn unnamed_and_spoilt(random: &mut Random) -> Event {
+    let Event::Message(mut message) = unnamed(random) else { unreachable!("a message") };
+    let bad = Number { nature: random.pick(&Nature::ALL), count: random.pick(&[0, 16, 127, 255]), value: 0 };
+    match random.below(8) {
+        0 => message.message = random.pick(&[0, 6, 255]),
+        1 => message.cause = random.pick(&[128, 255]),
+        2 => message.component = random.pick(&[5, 255]),
+        3 => (message.component, message.item) = random.pick(&[(0, 1), (1, 4), (2, 0), (4, 255)]),
+        4..=5 if message.names(part::CALLING) => message.calling = bad,
+        4..=7 if message.names(part::CALLED) => message.called = bad,
+        _ => message.parts |= 128,
     }
     Event::Message(message)
 }

@@ -292,6 +292,38 @@ pub fn record(random: &mut Random, call: &Call) -> Vec<u8> {
     make(random, want)
 }
 
+/// What may clear a call.
+pub fn clearing(random: &mut Random) -> Vec<u8> {
+    let want = draw(random, CLEARINGS);
+    make(random, want)
+}
+
+/// Any event but an opening: each that has rows of its own, or none, as often as every other.
+pub fn any(random: &mut Random) -> Vec<u8> {
+    const CARRIED: [(u8, u8); 9] = [
+        (PLAIN, 0),
+        (INVOKE, SETUP),
+        (INVOKE, ACTIVE),
+        (INVOKE, CALLED),
+        (RESULT, SETUP),
+        (RESULT, ACTIVE),
+        (RESULT, CALLED),
+        (ERROR, 0),
+        (REJECT, 0),
+    ];
+    let want = match random.below(56) as u8 {
+        request @ 0..=3 => Ask(request),
+        item @ 4..=8 => Access(item - 3),
+        9 => Expiry,
+        10 => Time,
+        message => {
+            let (component, operation) = CARRIED[usize::from(message - 11) % 9];
+            Say(1 + (message - 11) / 9, component, operation)
+        }
+    };
+    make(random, want)
+}
+
 /// An IAM with no component.
 pub fn plain_iam(random: &mut Random) -> Vec<u8> {
     make(random, Say(IAM, PLAIN, 0))

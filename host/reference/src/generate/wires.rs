@@ -685,7 +685,8 @@ fn entry(random: &mut Random) -> (Vec<u8>, usize) {
     let bytes = entry_of(&good, message, cause);
     let bytes = match random.below(20) {
         0..=7 => bytes,
-        8..=13 => spoilt_entry(random, 1),
+        8..=12 => spoilt_entry(random, 1),
+        13 => spoilt_in_places(random),
         14 => spoilt_entry(random, 2),
         15 => bytes[..random.below(bytes.len() as u64) as usize].to_vec(),
         16..=17 => badly_framed(random, bytes),
@@ -746,6 +747,29 @@ fn spoilt_entry(random: &mut Random, times: u32) -> Vec<u8> {
                     _ => random.pick(&[NO_IDENTIFIER, NO_IDENTIFIER, 257, 512, 65_535]),
                 };
             }
+        }
+    }
+    entry_of(&component, message, cause)
+}
+
+/// A result CALLED with a number, a Duration or both, in which two fields are bad: the first of them is to be told.
+fn spoilt_in_places(random: &mut Random) -> Vec<u8> {
+    let mut component = Component::bare(identifier(random), kind::RESULT, 3);
+    let places = sequence(kind::RESULT, 3);
+    for says in random.pick(&[places, places, places, &places[..2], &places[2..]]) {
+        add(random, &mut component, *says);
+    }
+    let (mut message, mut cause) = (1 + random.below(5) as u8, random.cause());
+    for _ in 0..2 {
+        match random.below(8) {
+            0 => message = random.pick(&[0, 6, 255]),
+            1 => cause = random.pick(&[128, 255]),
+            2 => component.kind = random.pick(&[0, 5, 255]),
+            3 => component.item = random.pick(&[0, 4, 255]),
+            4 => component.parts |= random.pick(&[1, 8, 128]),
+            5 if component.names(part::CALLING) => component.calling.count = random.pick(&[0, 16, 127]),
+            6 if component.names(part::DURATION) => component.duration = random.pick(&[LONGEST_DURATION + 1, u32::MAX]),
+            _ => component.identifier = random.pick(&[NO_IDENTIFIER, 257, 65_535]),
         }
     }
     entry_of(&component, message, cause)

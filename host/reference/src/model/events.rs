@@ -116,6 +116,20 @@ pub enum Event {
     Time(u32),
 }
 
+impl Event {
+    pub fn is_opening(&self) -> bool {
+        matches!(self, Event::Opening { .. })
+    }
+}
+
+/// 02 #106: "the field's ordinal in the body as well, first bad field first; a number is one field". It counts from 1.
+pub type Ordinal = usize;
+
+/// What a field is read to, or its ordinal where it is out of its range.
+fn judged<Value>(value: Option<Value>, ordinal: Ordinal) -> Result<Value, Ordinal> {
+    value.ok_or(ordinal)
+}
+
 /// A record whose framing is right: a known kind, and a body as long as the kind says.
 #[derive(Clone, Copy, PartialEq, Eq, Debug)]
 pub struct Record<'a> {
@@ -169,48 +183,53 @@ impl Record<'_> {
         2 + 2 + self.body.len()
     }
 
-    /// The event, or nothing where a field is out of its range (number 3).
-    pub fn event(&self) -> Option<Event> {
+    pub fn is_opening(&self) -> bool {
+        self.kind == 1
+    }
+
+    /// The event, or the first field that is out of its range (number 3).
+    pub fn event(&self) -> Result<Event, Ordinal> {
         let mut fields = Fields(self.body);
         match self.kind {
             1 => {
-                let (role, flags, own) = (fields.byte(), fields.byte(), fields.digits());
-                let role = match role {
+                let role = match fields.byte() {
                     0 => Role::Originating,
                     1 => Role::Destination,
-                    _ => return None,
+                    _ => return Err(1),
                 };
-                (flags < 32 && own.in_range()).then_some(Event::Opening { role, flags, own })
+                let flags = judged(Some(fields.byte()).filter(|flags| *flags < 32), 2)?;
+                let own = judged(fields.number(), 3)?;
+                Ok(Event::Opening { role, flags, own })
             }
             2 => {
-                let (ask, number) = (fields.byte(), fields.digits());
-                let (ask, dials) = match ask {
+                let (ask, dials) = match fields.byte() {
                     0 => (Ask::Basic, true),
                     1 => (Ask::A, true),
                     2 => (Ask::B, false),
                     3 => (Ask::C, false),
-                    _ => return None,
+                    _ => return Err(1),
                 };
+                let number = fields.digits();
                 let right = if dials { number.in_range() } else { number == Digits::ABSENT };
-                right.then_some(Event::Ask(ask))
+                judged(right.then_some(Event::Ask(ask)), 2)
             }
             3 => fields.message().map(Event::Message),
             4 => {
                 let (item, error) = (fields.byte(), fields.byte());
                 let access = match item {
                     1 => Access::Accept,
-                    2 => return Some(Event::Access(Access::Error(error))),
+                    2 => return Ok(Event::Access(Access::Error(error))),
                     3 => Access::Reject,
                     4 => Access::Clear,
                     5 => Access::Answer,
-                    _ => return None,
+                    _ => return Err(1),
                 };
-                (error == 0).then_some(Event::Access(access))
+                judged((error == 0).then_some(Event::Access(access)), 2)
             }
-            5 => Some(Event::Expiry),
+            5 => Ok(Event::Expiry),
             _ => {
                 let seconds = fields.four_bytes();
-                (seconds <= DAY).then_some(Event::Time(seconds))
+                judged((seconds <= DAY).then_some(Event::Time(seconds)), 1)
             }
         }
     }
@@ -243,38 +262,49 @@ impl Fields<'_> {
         Digits { nature, count, value: self.little_endian(8) }
     }
 
-    fn message(&mut self) -> Option<Message> {
+    /// A user number that has to be there.
+    fn number(&mut self) -> Option<Digits> {
+        Some(self.digits()).filter(|digits| digits.in_range())
+    }
+
+    fn message(&mut self) -> Result<Message, Ordinal> {
         let name = match self.byte() {
             1 => Name::Iam,
             2 => Name::Anm,
             3 => Name::Con,
             4 => Name::Rel,
             5 => Name::Fac,
-            _ => return None,
+            _ => return Err(1),
         };
         let cause = self.byte();
         if cause > 127 {
-            return None;
+            return Err(2);
         }
         let component = component(self.byte(), self.byte())?;
         let parts = self.parts()?;
-        Some(Message { name, cause, component, parts })
+        Ok(Message { name, cause, component, parts })
     }
 
-    fn parts(&mut self) -> Option<Parts> {
+    /// The parts are field 5, and those that bring bytes are counted from 6 as they are there.
+    fn parts(&mut self) -> Result<Parts, Ordinal> {
         let bits = self.byte();
         let has = |bit| bits & bit != 0;
         // Bit 128 names no part; "Part 4 without part 2 is a bad field."
         if has(128) || has(4) && !has(2) {
-            return None;
+            return Err(5);
         }
-        let calling = has(16).then(|| self.digits());
-        let called = has(32).then(|| self.digits());
+        let mut ordinal = 5;
+        let mut number = |there: bool| {
+            if !there {
+                return Ok(None);
+            }
+            ordinal += 1;
+            judged(self.number(), ordinal).map(Some)
+        };
+        let calling = number(has(16))?;
+        let called = number(has(32))?;
         let duration = has(64).then(|| self.four_bytes());
-        if ![calling, called].into_iter().flatten().all(Digits::in_range) {
-            return None;
-        }
-        Some(Parts {
+        Ok(Parts {
             transfer_requested: has(1),
             transfer_accepted: has(2),
             as_transfer: has(4),
@@ -286,22 +316,23 @@ impl Fields<'_> {
     }
 }
 
-/// "operation (1 SETUP, 2 ACTIVE, 3 CALLED) or error number, else 0"
-fn component(component: u8, detail: u8) -> Option<Component> {
+/// "operation (1 SETUP, 2 ACTIVE, 3 CALLED) or error number, else 0", which is field 4
+fn component(component: u8, detail: u8) -> Result<Component, Ordinal> {
     let operation = match detail {
         1 => Some(Operation::Setup),
         2 => Some(Operation::Active),
         3 => Some(Operation::Called),
         _ => None,
     };
-    match component {
+    let found = match component {
         0 => (detail == 0).then_some(Component::None),
         1 => operation.map(Component::Invoke),
         2 => operation.map(Component::Result),
         3 => Some(Component::Error(detail)),
         4 => (detail == 0).then_some(Component::Reject),
-        _ => None,
-    }
+        _ => return Err(3),
+    };
+    judged(found, 4)
 }
 
 #[cfg(test)]
@@ -330,7 +361,7 @@ mod tests {
         }
     }
 
-    fn event(bytes: &[u8]) -> Option<Event> {
+    fn event(bytes: &[u8]) -> Result<Event, Ordinal> {
         let record = frame(bytes).expect("a framed record");
         assert_eq!(record.size(), bytes.len());
         record.event()
@@ -344,10 +375,10 @@ mod tests {
             bytes.extend(seconds.to_le_bytes());
             event(&bytes)
         };
-        assert_eq!(event(&[6, 0, 6, 0, 0x3C, 0, 0, 0]), Some(Event::Time(60)));
-        assert_eq!(time(86_400), Some(Event::Time(86_400)));
-        assert_eq!(time(86_401), None);
-        assert_eq!(time(u32::MAX), None);
+        assert_eq!(event(&[6, 0, 6, 0, 0x3C, 0, 0, 0]), Ok(Event::Time(60)));
+        assert_eq!(time(86_400), Ok(Event::Time(86_400)));
+        assert_eq!(time(86_401), Err(1));
+        assert_eq!(time(u32::MAX), Err(1));
     }
 
     #[test]
@@ -357,68 +388,90 @@ mod tests {
             bytes.extend(value.to_le_bytes());
             event(&bytes)
         };
-        assert!(opening(0, 31, 1, 9).is_some());
-        assert!(opening(1, 0, 15, 999_999_999_999_999).is_some());
-        assert!(opening(1, 0, 15, 0).is_some());
-        for (role, flags, count, value) in
-            [(2, 0, 1, 1), (0, 32, 1, 1), (0, 0, 0, 0), (0, 0, 16, 0), (0, 0, 1, 10), (0, 0, 15, 1_000_000_000_000_000)]
-        {
-            assert_eq!(opening(role, flags, count, value), None);
-            assert_eq!(opening(role, flags, 0x80 | count, value), None);
+        assert!(opening(0, 31, 1, 9).is_ok());
+        assert!(opening(1, 0, 15, 999_999_999_999_999).is_ok());
+        assert!(opening(1, 0, 15, 0).is_ok());
+        for (ordinal, role, flags, count, value) in [
+            (1, 2, 0, 1, 1),
+            (1, 2, 32, 0, 0),
+            (2, 0, 32, 1, 1),
+            (2, 0, 32, 0, 0),
+            (3, 0, 0, 0, 0),
+            (3, 0, 0, 16, 0),
+            (3, 0, 0, 1, 10),
+            (3, 0, 0, 15, 1_000_000_000_000_000),
+        ] {
+            assert_eq!(opening(role, flags, count, value), Err(ordinal));
+            assert_eq!(opening(role, flags, 0x80 | count, value), Err(ordinal));
         }
         for (count, nature) in [(7, Nature::National), (0x87, Nature::International)] {
             let own = Digits { nature, count: 7, value: 5_550_100 };
             let opened = Event::Opening { role: Role::Originating, flags: 0, own };
-            assert_eq!(opening(0, 0, count, 5_550_100), Some(opened));
+            assert_eq!(opening(0, 0, count, 5_550_100), Ok(opened));
         }
-        assert!(opening(1, 0, 0x8F, 999_999_999_999_999).is_some());
-        assert_eq!(opening(0, 0, 0xFF, 0), None);
+        assert!(opening(1, 0, 0x8F, 999_999_999_999_999).is_ok());
+        assert_eq!(opening(0, 0, 0xFF, 0), Err(3));
         let ask = |ask: u8, count: u8, value: u64| {
             let mut bytes = vec![12, 0, 2, 0, ask, count];
             bytes.extend(value.to_le_bytes());
             event(&bytes)
         };
-        assert_eq!(ask(1, 1, 0), Some(Event::Ask(Ask::A)));
-        assert_eq!(ask(1, 0x81, 0), Some(Event::Ask(Ask::A)));
-        assert_eq!(ask(3, 0, 0), Some(Event::Ask(Ask::C)));
+        assert_eq!(ask(1, 1, 0), Ok(Event::Ask(Ask::A)));
+        assert_eq!(ask(1, 0x81, 0), Ok(Event::Ask(Ask::A)));
+        assert_eq!(ask(3, 0, 0), Ok(Event::Ask(Ask::C)));
         for (number, count, value) in
-            [(0, 0, 0), (0, 0x80, 0), (2, 1, 1), (2, 0, 1), (2, 0x80, 0), (2, 0x81, 1), (3, 0x80, 0), (4, 0, 0)]
+            [(0, 0, 0), (0, 0x80, 0), (2, 1, 1), (2, 0, 1), (2, 0x80, 0), (2, 0x81, 1), (3, 0x80, 0)]
         {
-            assert_eq!(ask(number, count, value), None);
+            assert_eq!(ask(number, count, value), Err(2));
         }
+        assert_eq!([ask(4, 0, 0), ask(4, 16, 0)], [Err(1); 2]);
+    }
+
+    #[test]
+    fn access_items() {
+        let access = |item, error| event(&[4, 0, 4, 0, item, error]);
+        assert_eq!(access(2, 255), Ok(Event::Access(Access::Error(255))));
+        assert_eq!(access(4, 0), Ok(Event::Access(Access::Clear)));
+        assert_eq!([access(0, 0), access(6, 1)], [Err(1); 2]);
+        assert_eq!([access(1, 1), access(5, 255)], [Err(2); 2]);
     }
 
     #[test]
     fn messages() {
         let plain = |name, cause, component, detail, parts| event(&[7, 0, 3, 0, name, cause, component, detail, parts]);
-        assert!(plain(5, 127, 4, 0, 15).is_some());
-        assert!(plain(1, 0, 3, 255, 0).is_some());
-        for (name, cause, component, detail, parts) in [
-            (0, 0, 0, 0, 0),
-            (6, 0, 0, 0, 0),
-            (1, 128, 0, 0, 0),
-            (1, 0, 5, 0, 0),
-            (1, 0, 0, 1, 0),
-            (1, 0, 1, 0, 0),
-            (1, 0, 2, 4, 0),
-            (1, 0, 4, 1, 0),
-            (1, 0, 0, 0, 4),
-            (1, 0, 0, 0, 128),
+        assert!(plain(5, 127, 4, 0, 15).is_ok());
+        assert!(plain(1, 0, 3, 255, 0).is_ok());
+        for (ordinal, [name, cause, component, detail, parts]) in [
+            (1, [0, 0, 0, 0, 0]),
+            (1, [6, 0, 0, 0, 0]),
+            (1, [6, 128, 5, 1, 128]),
+            (2, [1, 128, 0, 0, 0]),
+            (2, [1, 128, 5, 1, 128]),
+            (3, [1, 0, 5, 0, 0]),
+            (3, [1, 0, 5, 1, 128]),
+            (4, [1, 0, 0, 1, 0]),
+            (4, [1, 0, 1, 0, 0]),
+            (4, [1, 0, 2, 4, 0]),
+            (4, [1, 0, 4, 1, 128]),
+            (5, [1, 0, 0, 0, 4]),
+            (5, [1, 0, 0, 0, 128]),
         ] {
-            assert_eq!(plain(name, cause, component, detail, parts), None);
+            assert_eq!(plain(name, cause, component, detail, parts), Err(ordinal));
         }
         let mut full = vec![29, 0, 3, 0, 5, 0, 2, 3, 0x72];
         full.extend([2, 7, 0, 0, 0, 0, 0, 0, 0]);
         full.extend([0x81, 8, 0, 0, 0, 0, 0, 0, 0]);
         full.extend([40, 0, 0, 0]);
-        let Some(Event::Message(message)) = event(&full) else { panic!("a message") };
+        let Ok(Event::Message(message)) = event(&full) else { panic!("a message") };
         assert_eq!(message.parts.calling, Some(Digits { nature: Nature::National, count: 2, value: 7 }));
         assert_eq!(message.parts.called, Some(Digits { nature: Nature::International, count: 1, value: 8 }));
         assert_eq!(message.parts.duration, Some(40));
-        for place in [9, 18] {
-            let mut none = full.clone();
-            none[place..place + 9].copy_from_slice(&[0x80, 0, 0, 0, 0, 0, 0, 0, 0]);
-            assert_eq!(event(&none), None);
+        for (place, ordinal) in [(18, 7), (9, 6)] {
+            full[place..place + 9].copy_from_slice(&[0x80, 0, 0, 0, 0, 0, 0, 0, 0]);
+            assert_eq!(event(&full), Err(ordinal));
         }
+        // A called number alone is field 6.
+        let alone = [16, 0, 3, 0, 5, 0, 2, 3, 0x20, 0x80, 0, 0, 0, 0, 0, 0, 0, 0];
+        assert_eq!(event(&alone), Err(6));
     }
 }

@@ -4,7 +4,7 @@ use super::{read, Component};
 use crate::model::{events, Given};
 use crate::write::{Event, Refusal};
 
-/// What is given back in one number: the low byte says whether it was done or why not, the rest where or how much.
+/// What is given back in one number: the low byte says whether it was done or why not, the rest where, how much, or in which field.
 #[derive(Clone, PartialEq, Eq, Debug)]
 pub enum Answer {
     Written(Vec<u8>),
@@ -27,7 +27,7 @@ impl Answer {
     }
 
     fn of(refusal: Refusal) -> Answer {
-        Answer::Refused { number: refusal as u8, rest: 0 }
+        Answer::Refused { number: refusal.number(), rest: refusal.ordinal() as usize }
     }
 }
 
@@ -74,17 +74,29 @@ pub fn of_entry(entry: &[u8]) -> Result<Option<(Component, Event)>, u8> {
     })
 }
 
-/// Writes the parameter with the one component of an entry.
+/// The fields of an entry that keep it from being written, counted in the body of its record, the identifier after them: message and cause
+/// stand before the component.
+pub fn bad_ordinals(component: &Component, event: &Event) -> Vec<u32> {
+    let mut ordinals: Vec<u32> = component.bad_ordinals().into_iter().map(|ordinal| 2 + ordinal).collect();
+    ordinals.extend(event.bad_ordinals());
+    ordinals.sort();
+    ordinals.dedup();
+    ordinals
+}
+
+/// Writes the parameter with the one component of an entry. Where the record is of another kind, no field of it is to blame.
 pub fn write_parameter(entry: &[u8], room: usize) -> Answer {
-    let bad_field = Answer::of(Refusal::BadField);
-    match of_entry(entry) {
-        Err(number) => Answer::Refused { number, rest: 0 },
-        Ok(None) => bad_field,
-        Ok(Some((_, event))) if !event.bad_fields().is_empty() => bad_field,
-        Ok(Some((component, _))) => match component.write_parameter(room) {
-            Ok(octets) => Answer::Written(octets),
-            Err(refusal) => Answer::of(refusal),
-        },
+    let (component, event) = match of_entry(entry) {
+        Err(number) => return Answer::Refused { number, rest: 0 },
+        Ok(None) => return Answer::of(Refusal::BadField { ordinal: 0 }),
+        Ok(Some(both)) => both,
+    };
+    if let [ordinal, ..] = bad_ordinals(&component, &event)[..] {
+        return Answer::of(Refusal::BadField { ordinal });
+    }
+    match component.write_parameter(room) {
+        Ok(octets) => Answer::Written(octets),
+        Err(refusal) => Answer::of(refusal),
     }
 }
 
@@ -107,9 +119,9 @@ mod tests {
         assert_eq!(read_parameter(&ERROR, 4, 29, 11), Answer::Written(ERROR_ENTRY.to_vec()));
         assert_eq!(read_parameter(&ERROR, 4, 29, 11).given(), 11 * 256);
         assert_eq!(read_parameter(&ERROR, 4, 29, 10), refused(8, 0));
-        assert_eq!(read_parameter(&ERROR, 0, 29, 0), refused(3, 0));
-        assert_eq!(read_parameter(&ERROR, 6, 29, 11), refused(3, 0));
-        assert_eq!(read_parameter(&ERROR, 4, 128, 11), refused(3, 0));
+        assert_eq!(read_parameter(&ERROR, 0, 29, 0), refused(3, 1));
+        assert_eq!(read_parameter(&ERROR, 6, 128, 11), refused(3, 1));
+        assert_eq!(read_parameter(&ERROR, 4, 128, 11), refused(3, 2));
         assert_eq!(read_parameter(&ERROR[..16], 0, 29, 0), refused(11, 0));
         assert_eq!(read_parameter(&[0x32, 0x01, 0x92], 0, 128, 0).given(), 14 + 2 * 256);
     }
@@ -136,37 +148,42 @@ mod tests {
         }
     }
 
-    /// Bytes of the entry changed, and the number that this gets.
+    /// Bytes of the entry changed, and the number that this gets, with the first bad field.
     #[test]
     fn entries_are_refused() {
-        let changes: [(&[(usize, u8)], u8); 14] = [
-            (&[(1, 1)], 3),
-            (&[(1, 2)], 3),
-            (&[(2, 1)], 6),
-            (&[(2, 6)], 6),
-            (&[(2, 8)], 5),
-            (&[(2, 30)], 6),
-            (&[(3, 1)], 6),
-            (&[(4, 7)], 7),
-            (&[(4, 0)], 7),
-            (&[(5, 1)], 7),
-            (&[(6, 0)], 3),
-            (&[(7, 128)], 3),
-            (&[(9, 13)], 3),
-            (&[(10, 16)], 6),
+        let changes: [(&[(usize, u8)], u8, usize); 19] = [
+            (&[(1, 1)], 3, 6),
+            (&[(1, 2)], 3, 6),
+            (&[(2, 1)], 6, 0),
+            (&[(2, 6)], 6, 0),
+            (&[(2, 8)], 5, 0),
+            (&[(2, 30)], 6, 0),
+            (&[(3, 1)], 6, 0),
+            (&[(4, 7)], 7, 0),
+            (&[(4, 0)], 7, 0),
+            (&[(5, 1)], 7, 0),
+            (&[(6, 0)], 3, 1),
+            (&[(7, 128)], 3, 2),
+            (&[(9, 13)], 3, 4),
+            (&[(10, 16)], 6, 0),
+            (&[(1, 1), (6, 0), (7, 128), (8, 0), (10, 128)], 3, 1),
+            (&[(1, 1), (7, 128), (8, 0), (10, 128)], 3, 2),
+            (&[(1, 1), (8, 0), (10, 128)], 3, 3),
+            (&[(1, 1), (9, 13), (10, 128)], 3, 4),
+            (&[(1, 1), (10, 1)], 3, 5),
         ];
-        for (bytes, number) in changes {
+        for (bytes, number, rest) in changes {
             let mut entry = ERROR_ENTRY;
             for (place, byte) in bytes {
                 entry[*place] = *byte;
             }
-            assert_eq!(write_parameter(&entry, 0), refused(number, 0), "{bytes:?}");
+            assert_eq!(write_parameter(&entry, 0), refused(number, rest), "{bytes:?}");
         }
         // other kinds, whole and not
         assert_eq!(write_parameter(&[0, 0, 2, 0, 5, 0], 99), refused(3, 0));
         assert_eq!(write_parameter(&[0, 0, 3, 0, 5, 0, 0], 99), refused(6, 0));
         // no component
-        assert_eq!(write_parameter(&[0, 1, 7, 0, 3, 0, 5, 0, 0, 0, 0], 99), refused(3, 0));
+        assert_eq!(write_parameter(&[0, 1, 7, 0, 3, 0, 5, 0, 0, 0, 0], 99), refused(3, 3));
     }
 
     /// What is read from the cases is written as a parameter that is read to the same entries.

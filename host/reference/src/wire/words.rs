@@ -1,7 +1,7 @@
 //! The cases' own words: `reference wire` takes the input of a case and prints the answer.
 
 use super::{flag, kind, read, Component, NO_IDENTIFIER};
-use crate::write::{part, Nature, Number, Refusal};
+use crate::write::{part, Nature, Number};
 
 const OPERATIONS: [&str; 3] = ["SETUP", "ACTIVE", "CALLED"];
 const FLAGS: [(u8, &str); 4] = [
@@ -28,8 +28,7 @@ pub fn answer(input: &str) -> Option<String> {
             let (room, rest) = rest.split_once(' ')?;
             Some(match component(rest)?.write(room.parse().ok()?) {
                 Ok(octets) => hex(&octets),
-                Err(Refusal::BadField) => "3".into(),
-                Err(Refusal::NoRoom) => "8".into(),
+                Err(refusal) => refusal.number().to_string(),
             })
         }
         _ => None,

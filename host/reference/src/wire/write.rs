@@ -5,8 +5,9 @@ use super::{flag, kind, sequence, Component, Says, ERRORS, LONGEST_DURATION, MOD
 use crate::write::{part, Nature, Number, Refusal};
 
 impl Component {
-    /// What keeps it from being written, by name.
-    pub fn bad_fields(&self) -> Vec<&'static str> {
+    /// What keeps it from being written: the ordinal of each and its name. They are counted in a component: itself 1, its operation or
+    /// error 2, its parts 3, then what the parts bring, as it is there, and the identifier last.
+    fn out_of_range(&self) -> Vec<(u32, &'static str)> {
         let operation = matches!(self.kind, kind::INVOKE | kind::RESULT);
         let item = match self.kind {
             kind::INVOKE | kind::RESULT => (1..=3).contains(&self.item),
@@ -19,18 +20,43 @@ impl Component {
         let known = item && (operation || matches!(self.kind, kind::ERROR | kind::REJECT));
         let places = sequence(self.kind, self.item).iter().fold(0, |parts, says| parts | says.parts());
         let identifier = self.identifier < 256 || self.identifier == NO_IDENTIFIER && self.kind == kind::REJECT;
+        // What is there and not named is a fault of the parts.
+        let mut last = 3;
+        let mut place = |named: bool| {
+            last += u32::from(named);
+            if named {
+                last
+            } else {
+                3
+            }
+        };
+        let (calling, called) = (place(self.names(part::CALLING)), place(self.names(part::CALLED)));
+        let duration = place(self.names(part::DURATION));
         let fields = [
-            ("kind", (kind::INVOKE..=kind::REJECT).contains(&self.kind)),
-            ("item", item),
-            ("part 128", !self.names(128)),
-            ("part 4 without 2", !self.names(flag::AS_TRANSFER) || self.names(flag::ACCEPTED)),
-            ("a part without a place", !known || self.parts & 127 & !places == 0),
-            ("calling number", fits(self.calling, self.names(part::CALLING))),
-            ("called number", fits(self.called, self.names(part::CALLED))),
-            ("duration", self.duration <= if self.names(part::DURATION) { LONGEST_DURATION } else { 0 }),
-            ("identifier", identifier),
+            (1, "kind", (kind::INVOKE..=kind::REJECT).contains(&self.kind)),
+            (2, "item", item),
+            (3, "part 128", !self.names(128)),
+            (3, "part 4 without 2", !self.names(flag::AS_TRANSFER) || self.names(flag::ACCEPTED)),
+            (3, "a part without a place", !known || self.parts & 127 & !places == 0),
+            (calling, "calling number", fits(self.calling, self.names(part::CALLING))),
+            (called, "called number", fits(self.called, self.names(part::CALLED))),
+            (duration, "duration", self.duration <= if self.names(part::DURATION) { LONGEST_DURATION } else { 0 }),
+            (last + 1, "identifier", identifier),
         ];
-        fields.into_iter().filter(|(_, good)| !good).map(|(name, _)| name).collect()
+        fields.into_iter().filter(|(_, _, good)| !good).map(|(ordinal, name, _)| (ordinal, name)).collect()
+    }
+
+    /// What keeps it from being written, by name.
+    pub fn bad_fields(&self) -> Vec<&'static str> {
+        self.out_of_range().into_iter().map(|(_, name)| name).collect()
+    }
+
+    /// The ordinals of these, the first first.
+    pub fn bad_ordinals(&self) -> Vec<u32> {
+        let mut ordinals: Vec<u32> = self.out_of_range().into_iter().map(|(ordinal, _)| ordinal).collect();
+        ordinals.sort();
+        ordinals.dedup();
+        ordinals
     }
 
     /// Its octets. Its fields are in range.
@@ -84,8 +110,8 @@ impl Component {
     }
 
     fn write_as(&self, room: usize, octets: impl Fn(&Component) -> Vec<u8>) -> Result<Vec<u8>, Refusal> {
-        if !self.bad_fields().is_empty() {
-            return Err(Refusal::BadField);
+        if let [ordinal, ..] = self.bad_ordinals()[..] {
+            return Err(Refusal::BadField { ordinal });
         }
         let octets = octets(self);
         if octets.len() > room {
@@ -201,37 +227,65 @@ mod tests {
         let (setup, called, error) = (Component::bare(1, 1, 1), full(2, 3), Component::bare(1, 3, 4));
         let reject = Component::bare(NO_IDENTIFIER, 4, 0);
         let cases = [
-            ("kind", Component::bare(1, 0, 0)),
-            ("kind", Component::bare(1, 5, 0)),
-            ("item", with(setup, |c| c.item = 0)),
-            ("item", with(setup, |c| c.item = 4)),
-            ("item", with(error, |c| c.item = 3)),
-            ("item", with(error, |c| c.item = 13)),
-            ("item", with(reject, |c| c.item = 1)),
-            ("part 128", with(setup, |c| c.parts = 128)),
-            ("part 4 without 2", with(called, |c| c.parts &= !2)),
-            ("a part without a place", with(setup, |c| c.parts = 8)),
-            ("a part without a place", with(setup, |c| c.parts = 2)),
-            ("a part without a place", with(setup, |c| (c.parts, c.called) = (part::CALLED, HOME))),
-            ("a part without a place", with(error, |c| (c.parts, c.called) = (part::CALLED, HOME))),
-            ("a part without a place", with(reject, |c| c.parts = 1)),
-            ("calling number", with(called, |c| c.calling = Number::ABSENT)),
-            ("calling number", with(called, |c| c.calling.count = 16)),
-            ("calling number", with(called, |c| c.calling.value += 1)),
-            ("calling number", with(setup, |c| c.calling = HOME)),
-            ("called number", with(setup, |c| c.called = Number::international(0, 0))),
-            ("duration", with(called, |c| c.duration = LONGEST_DURATION + 1)),
-            ("duration", with(setup, |c| c.duration = 1)),
-            ("identifier", with(setup, |c| c.identifier = NO_IDENTIFIER)),
-            ("identifier", with(reject, |c| c.identifier = 257)),
-            ("identifier", with(reject, |c| c.identifier = 65_535)),
+            (1, "kind", Component::bare(1, 0, 0)),
+            (1, "kind", Component::bare(1, 5, 0)),
+            (2, "item", with(setup, |c| c.item = 0)),
+            (2, "item", with(setup, |c| c.item = 4)),
+            (2, "item", with(error, |c| c.item = 3)),
+            (2, "item", with(error, |c| c.item = 13)),
+            (2, "item", with(reject, |c| c.item = 1)),
+            (3, "part 128", with(setup, |c| c.parts = 128)),
+            (3, "part 4 without 2", with(called, |c| c.parts &= !2)),
+            (3, "a part without a place", with(setup, |c| c.parts = 8)),
+            (3, "a part without a place", with(setup, |c| c.parts = 2)),
+            (3, "a part without a place", with(setup, |c| (c.parts, c.called) = (part::CALLED, HOME))),
+            (3, "a part without a place", with(error, |c| (c.parts, c.called) = (part::CALLED, HOME))),
+            (3, "a part without a place", with(reject, |c| c.parts = 1)),
+            (4, "calling number", with(called, |c| c.calling = Number::ABSENT)),
+            (4, "calling number", with(called, |c| c.calling.count = 16)),
+            (4, "calling number", with(called, |c| c.calling.value += 1)),
+            (3, "calling number", with(setup, |c| c.calling = HOME)),
+            (3, "called number", with(setup, |c| c.called = Number::international(0, 0))),
+            (5, "duration", with(called, |c| c.duration = LONGEST_DURATION + 1)),
+            (3, "duration", with(setup, |c| c.duration = 1)),
+            (4, "identifier", with(setup, |c| c.identifier = NO_IDENTIFIER)),
+            (4, "identifier", with(reject, |c| c.identifier = 257)),
+            (4, "identifier", with(reject, |c| c.identifier = 65_535)),
+            (5, "identifier", with(full(1, 1), |c| c.identifier = 300)),
+            (5, "identifier", with(full(2, 2), |c| c.identifier = NO_IDENTIFIER)),
+            (6, "identifier", with(called, |c| c.identifier = NO_IDENTIFIER)),
         ];
-        for (field, component) in cases {
+        for (ordinal, field, component) in cases {
             assert_eq!(component.bad_fields(), [field], "{component:?}");
             for room in [0, 38, 255] {
-                assert_eq!(component.write(room), Err(Refusal::BadField), "{component:?}");
-                assert_eq!(component.write_parameter(room), Err(Refusal::BadField), "{component:?}");
+                assert_eq!(component.write(room), Err(Refusal::BadField { ordinal }), "{component:?}");
+                assert_eq!(component.write_parameter(room), Err(Refusal::BadField { ordinal }), "{component:?}");
             }
         }
+    }
+
+    /// "first bad field first": a component in which all are bad, and then one after the other is not.
+    #[test]
+    fn the_first_bad_field() {
+        let bad = Number::national(16, 0);
+        let (calling, duration) = (bad, LONGEST_DURATION + 1);
+        let mut component =
+            Component { identifier: 300, kind: 0, item: 4, parts: 0xDC, calling, duration, ..full(2, 3) };
+        let mut refused = |change: fn(&mut Component)| {
+            change(&mut component);
+            component.write(0).map_err(Refusal::ordinal)
+        };
+        assert_eq!(refused(|_| ()), Err(1));
+        assert_eq!(refused(|c| c.kind = kind::RESULT), Err(2));
+        assert_eq!(refused(|c| c.item = 3), Err(3));
+        assert_eq!(refused(|c| c.parts = 0x54), Err(3));
+        assert_eq!(refused(|c| c.parts = 0x56), Err(4));
+        assert_eq!(refused(|c| c.calling = HOME), Err(5));
+        assert_eq!(refused(|c| c.duration = LONGEST_DURATION), Err(6));
+        assert_eq!(refused(|c| c.duration += 1), Err(5));
+        assert_eq!(refused(|c| (c.parts, c.duration) = (0x16, 0)), Err(5));
+        assert_eq!(refused(|c| c.duration = 1), Err(3));
+        // 8: none is bad
+        assert_eq!(refused(|c| (c.duration, c.identifier) = (0, 3)), Err(0));
     }
 }

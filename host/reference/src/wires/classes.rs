@@ -2,7 +2,7 @@
 
 use crate::generate::wires::Question;
 use crate::tally::Tally;
-use crate::wire::entries::{of_entry, Answer};
+use crate::wire::entries::{bad_ordinals, of_entry, Answer};
 use crate::wire::read::{self, Met, Refusal};
 use crate::wire::{kind, sequence, Component, Says, ERRORS, LONGEST_DURATION, NO_IDENTIFIER};
 use crate::write::{part, Event, Nature, Number};
@@ -22,6 +22,7 @@ pub struct Writing {
     room: usize,
     read: Result<Option<(Component, Event)>, u8>,
     bad_fields: Vec<&'static str>,
+    bad_ordinals: Vec<u32>,
     answer: Answer,
 }
 
@@ -48,7 +49,18 @@ impl Case {
                     }
                     _ => vec![],
                 };
-                Case::Write(Writing { entry: entry.clone(), room: before.len(), read, bad_fields, answer })
+                let bad_ordinals = match &read {
+                    Ok(Some((component, event))) => bad_ordinals(component, event),
+                    _ => vec![],
+                };
+                Case::Write(Writing {
+                    entry: entry.clone(),
+                    room: before.len(),
+                    read,
+                    bad_fields,
+                    bad_ordinals,
+                    answer,
+                })
             }
         }
     }
@@ -232,6 +244,7 @@ impl Classes {
         classes.read_looser();
         classes.write_answers();
         classes.write_bad_fields();
+        classes.write_ordinals();
         classes.write_framing();
         classes.write_components();
         classes
@@ -317,6 +330,7 @@ impl Classes {
             add("8 by a byte", |reading| reading.number() == 8 && reading.size() == Some(reading.room + 1));
             add("3 by the message", |reading| reading.number() == 3 && reading.cause < 128);
             add("3 by the cause", |reading| reading.number() == 3 && reading.message_in_range());
+            add("3 by both", |reading| reading.number() == 3 && !reading.message_in_range() && reading.cause > 127);
             add("3 in the exact room", |reading| reading.number() == 3 && reading.size() == Some(reading.room));
             add("3 with too little room", |reading| reading.number() == 3 && reading.size() > Some(reading.room));
         }
@@ -479,6 +493,42 @@ impl Classes {
                 }
                 bad("of the largest value".into(), Box::new(|n| n.value == u64::MAX));
             }
+        }
+    }
+
+    /// Each ordinal alone, and before each that is bad too. What the parts bring is 6 and 7, the identifier is after it.
+    fn write_ordinals(&mut self) {
+        for first in 1..=8 {
+            self.write(format!("field {first} bad"), move |writing| writing.bad_ordinals == [first]);
+            for second in first + 1..=8 {
+                // a component that is not known allows any number of its own
+                if (first, second) != (3, 4) {
+                    self.write(format!("fields {first} and {second} bad"), move |writing| {
+                        writing.bad_ordinals == [first, second]
+                    });
+                }
+            }
+        }
+        for (kind, item, parts, ordinal) in [
+            (1, 1, 0, 6),
+            (1, 1, 16, 7),
+            (1, 3, 32, 7),
+            (2, 1, 32, 7),
+            (2, 3, 2, 6),
+            (2, 3, 80, 8),
+            (2, 3, 64, 7),
+            (3, 4, 0, 6),
+            (4, 0, 0, 6),
+        ] {
+            self.write(
+                format!("the identifier is field {ordinal} in component {kind} with {item}, parts {parts}"),
+                move |writing| {
+                    let is = |c: &Component| (c.kind, c.item, c.parts & 0x70) == (kind, item, parts & 0x70);
+                    writing.bad_fields == ["identifier"]
+                        && writing.bad_ordinals == [ordinal]
+                        && writing.component().is_some_and(is)
+                },
+            );
         }
     }
 

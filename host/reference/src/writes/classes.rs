@@ -15,8 +15,12 @@ impl Case {
         self.given.is_ok()
     }
 
-    fn refused(&self, refusal: Refusal) -> bool {
-        self.given == Err(refusal)
+    fn no_room(&self) -> bool {
+        self.given == Err(Refusal::NoRoom)
+    }
+
+    fn bad_field(&self) -> bool {
+        matches!(self.given, Err(Refusal::BadField { .. }))
     }
 
     /// Whether this field, and no other, is out of its range.
@@ -93,6 +97,7 @@ impl Classes {
         let mut classes = Tally::new();
         classes.answers();
         classes.bad_fields();
+        classes.ordinals();
         classes.values();
         classes.bounds();
         classes.natures();
@@ -109,14 +114,14 @@ impl Classes {
             add("0", Case::written);
             add("0, the exact room", |case| case.given == Ok(case.room));
             add("0, more room", |case| case.given.is_ok_and(|length| length < case.room));
-            add("8", |case| case.refused(Refusal::NoRoom));
-            add("8, no room", |case| case.refused(Refusal::NoRoom) && case.room == 0);
-            add("8, a byte too few", |case| case.refused(Refusal::NoRoom) && case.room + 1 == case.event.size());
+            add("8", Case::no_room);
+            add("8, no room", |case| case.no_room() && case.room == 0);
+            add("8, a byte too few", |case| case.no_room() && case.room + 1 == case.event.size());
             if name != "expiry" {
-                add("3", |case| case.refused(Refusal::BadField));
-                add("3, no room", |case| case.refused(Refusal::BadField) && case.room == 0);
-                add("3, a byte too few", |case| case.refused(Refusal::BadField) && case.room + 1 == case.event.size());
-                add("3, room", |case| case.refused(Refusal::BadField) && case.room >= case.event.size());
+                add("3", Case::bad_field);
+                add("3, no room", |case| case.bad_field() && case.room == 0);
+                add("3, a byte too few", |case| case.bad_field() && case.room + 1 == case.event.size());
+                add("3, room", |case| case.bad_field() && case.room >= case.event.size());
             }
         }
     }
@@ -127,6 +132,46 @@ impl Classes {
             self.add(format!("{name}: {field} alone bad"), move |case| {
                 case.event.kind() == kind && case.only_bad(field)
             });
+        }
+    }
+
+    /// Each ordinal alone, and before each that is bad too. In a message the numbers are 6 and 7; a called number alone is 6; a Duration
+    /// that is named is never bad.
+    fn ordinals(&mut self) {
+        for (kind, fields) in [(1, 3), (2, 2), (3, 7), (4, 2), (6, 1)] {
+            let name = KINDS[usize::from(kind) - 1];
+            for first in 1..=fields {
+                self.add(format!("{name}: field {first} bad"), move |case| {
+                    case.event.kind() == kind && case.event.bad_ordinals() == [first]
+                });
+                for second in first + 1..=fields {
+                    // an item belongs to a component, and none is bad beside one that is not known
+                    if (kind, first, second) == (3, 3, 4) {
+                        continue;
+                    }
+                    self.add(format!("{name}: fields {first} and {second} bad"), move |case| {
+                        case.event.kind() == kind && case.event.bad_ordinals() == [first, second]
+                    });
+                }
+            }
+        }
+        self.add("message: a called number alone is 6".into(), |case| {
+            case.only_bad("called number") && case.given == Err(Refusal::BadField { ordinal: 6 })
+        });
+        for part in [part::CALLING, part::CALLED, part::DURATION] {
+            self.add(
+                format!("message: part {part} not named and there, a number that is named out of range"),
+                move |case| {
+                    let there = |message: &Message| match part {
+                        part::CALLING => message.calling != Number::ABSENT,
+                        part::CALLED => message.called != Number::ABSENT,
+                        _ => message.duration != 0,
+                    };
+                    case.message().is_some_and(|m| !m.names(part) && there(m))
+                        && case.wants(|number| !number.in_range())
+                        && case.given == Err(Refusal::BadField { ordinal: 5 })
+                },
+            );
         }
     }
 
