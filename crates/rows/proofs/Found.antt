@@ -3,7 +3,7 @@
 -- A test that holds there holds of the plan for any event and any terms.
 -- Assumes nothing.
 use mathlib.Core.Path.{_≡_, refl}
-use mathlib.Core.Bool.{Bool, true, false, _&&_, not}
+use mathlib.Core.Bool.{Bool, true, false, _&&_, _||_, not}
 use Prim.Native.Nat.{ℕ}
 use lib.Dec.{eqb}
 use borrow.Author.Tests.{not-true}
@@ -452,17 +452,17 @@ found f h r now e t =
     plans (f r now (e .kind)) t (rowForOf r (now .phase) (now .rev) e) .law
     (walk (rowTest f t r now) e r (now .phase) (now .rev) .law k)
 
--- a plan that has the number 1 is no row's
-abbrev oneForNone : Terms → Row → Bool
-oneForNone t x = implies (isRow x) (plans (λ p. not (eqb (p .number) 1)) t x .test)
+-- a row's plan applies, or it lacks a part: 0 or 4
+abbrev ofRows : Terms → Row → Bool
+ofRows t x = implies (isRow x) (plans (λ p. eqb (p .number) 0 || eqb (p .number) 4) t x .test)
 
-pub one-for-none : (r : Role) (p : Phase) (s : RevState) (e : Cue) (t : Terms) → isRow (rowForOf r p s e) ≡ true →
-    eqb (planOf (rowForOf r p s e) t .number) 1 ≡ false
-one-for-none r p s e t h =
-    let k = rev (λ s′. walk (λ k. oneForNone t) e r p s′ .test)
-    (phase (λ p′. everyRev (λ s′. walk (λ k. oneForNone t) e r p′ s′ .test))
-    (role (λ r′. everyPhase (λ p′. everyRev (λ s′. walk (λ k. oneForNone t) e r′ p′ s′ .test))) refl r) p) s in
-    not-true _ (plans (λ x. not (eqb (x .number) 1)) t (rowForOf r p s e) .law (so _ _ (walk (λ k. oneForNone t) e r p s .law k) h))
+pub row-plans : (r : Role) (p : Phase) (s : RevState) (e : Cue) (t : Terms) → isRow (rowForOf r p s e) ≡ true →
+    (eqb (planOf (rowForOf r p s e) t .number) 0 || eqb (planOf (rowForOf r p s e) t .number) 4) ≡ true
+row-plans r p s e t h =
+    let k = rev (λ s′. walk (λ k. ofRows t) e r p s′ .test)
+    (phase (λ p′. everyRev (λ s′. walk (λ k. ofRows t) e r p′ s′ .test))
+    (role (λ r′. everyPhase (λ p′. everyRev (λ s′. walk (λ k. ofRows t) e r′ p′ s′ .test))) refl r) p) s in
+    plans (λ x. eqb (x .number) 0 || eqb (x .number) 4) t (rowForOf r p s e) .law (so _ _ (walk (λ k. ofRows t) e r p s .law k) h)
 
 -- a test of the plan that one event finds, at every place that 01 allows
 abbrev pub wherever : (Role → Phase → RevState → Plan → Bool) → Cue → Terms → Bool

@@ -13,6 +13,7 @@ pub mod Phases
 pub mod Placed
 pub mod Progress
 pub mod Ranges
+pub mod Reasons
 pub mod Refusals
 pub mod Requests
 pub mod Reversal

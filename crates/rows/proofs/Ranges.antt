@@ -3,12 +3,14 @@
 use mathlib.Core.Path.{_≡_, refl, sym, _∙_, ap}
 use mathlib.Core.Bool.{Bool, true, false, _&&_, _||_}
 use mathlib.Core.List.{List, [], _∷_}
-use Prim.Native.Nat.{ℕ, suc, _<_, _≤_, _+_}
+use mathlib.Core.Logic.{_↔_}
+use Prim.Native.Nat.{ℕ, zero, suc, _<_, _≤_, _+_}
 use native.Mathlib.Omega.{arith}
 use lib.Dec.{eqb, leb}
 use Rattle.rows.specs.Read.{bit}
 use Rattle.rows.specs.Valid.{everyOne, firstFalse, numberThere, numberAbsent, numberIf, codeOk, itemOk, partsOk, presentThen, carriedRanges}
 use Rattle.rows.specs.Perform.{refusedAt}
+use Rattle.rows.specs.Reasons.{fieldIn, FirstOut}
 use Rattle.rows.specs.Step.{takesOf, ifInRange}
 use Rattle.rows.specs.Valid.{rangesOf, eventOk, badFieldOf}
 use Rattle.rows.specs.declared.Call.{Call}
@@ -79,6 +81,44 @@ pub some-false : (k : ℕ) (bs : List Bool) → everyOne bs ≡ false → k ≤ 
 some-false k [] h = differ (sym h)
 some-false k (true ∷ bs) h = let i = some-false (suc k) bs h in omega arith
 some-false k (false ∷ bs) h = omega arith
+
+-- it is 0, or no less than the first that is counted
+zero-or-later : (k : ℕ) (bs : List Bool) (m : ℕ) → firstFalse (suc k) bs ≡ suc m → k ≤ m
+zero-or-later k [] m h = absurd (omega (arith, h))
+zero-or-later k (true ∷ bs) m h = let i = zero-or-later (suc k) bs m h in omega (arith, i)
+zero-or-later k (false ∷ bs) m h = omega (arith, h)
+
+-- the field that it names is the first out of range ..
+first-out : (m : ℕ) (bs : List Bool) (k : ℕ) → firstFalse (suc m) bs ≡ suc m + k → FirstOut bs k
+first-out m [] k h = absurd (omega (arith, h))
+first-out m (true ∷ bs) zero h = let i = zero-or-later (suc m) bs m (h ∙ omega arith) in absurd (omega (arith, i))
+first-out m (true ∷ bs) (suc k) h =
+    let i = first-out (suc m) bs k (h ∙ omega arith) in
+    (i .0, before i)
+  where
+    before : FirstOut bs k → (j : ℕ) → j < suc k → fieldIn (true ∷ bs) j ≡ true
+    before i zero l = refl
+    before i (suc j) l = i .1 j (omega (arith, l))
+first-out m (false ∷ bs) zero h = (refl, λ j l. absurd (omega (arith, l)))
+first-out m (false ∷ bs) (suc k) h = absurd (omega (arith, h))
+
+-- .. and such a field is named
+out-first : (m : ℕ) (bs : List Bool) (k : ℕ) → FirstOut bs k → firstFalse (suc m) bs ≡ suc m + k
+out-first m [] k h = differ (sym (h .0))
+out-first m (true ∷ bs) zero h = differ (sym (h .0))
+out-first m (true ∷ bs) (suc k) h = out-first (suc m) bs k (h .0, λ j l. h .1 (suc j) (omega (arith, l))) ∙ omega arith
+out-first m (false ∷ bs) zero h = omega arith
+out-first m (false ∷ bs) (suc k) h = differ (h .1 0 (omega arith))
+
+pub first-bad-exactly : (e : Event) (k : ℕ) → (badFieldOf e ≡ suc k) ↔ FirstOut (rangesOf e) k
+first-bad-exactly e k = (λ h. first-out 0 (rangesOf e) k (h ∙ omega arith), λ h. out-first 0 (rangesOf e) k h ∙ omega arith)
+
+pub none-bad-exactly : (e : Event) → (badFieldOf e ≡ 0) ↔ (eventOk e ≡ true)
+none-bad-exactly e = (all (eventOk e) refl, none-false 1 (rangesOf e))
+  where
+    all : (b : Bool) → eventOk e ≡ b → badFieldOf e ≡ 0 → b ≡ true
+    all true h i = refl
+    all false h i = let j = some-false 1 (rangesOf e) h in absurd (omega (arith, i, j))
 
 in-range-by : (b : Bool) (c : Call) (e : Event) → eventOk e ≡ b → badFieldOf e ≡ 0 → takesOf c e ≡ ifInRange b c e
 in-range-by true c e h i = refl

@@ -35,7 +35,7 @@ use Rattle.rows.specs.declared.Row.{Row}
 use Rattle.rows.specs.declared.Terms.{Terms}
 use Rattle.rows.proofs.Answers.{planFor, performed, settled, by-why, has-plan, refused-or-performed}
 use Rattle.rows.proofs.Below.{every, below}
-use Rattle.rows.proofs.Found.{implies, so, one-for-none, wherever, at-place}
+use Rattle.rows.proofs.Found.{implies, so, row-plans, wherever, at-place}
 use Rattle.rows.proofs.Progress.{valid-place, with-these}
 use Rattle.rows.proofs.Ranges.{message-in-range}
 use Rattle.rows.proofs.Running.{any-invoke}
@@ -69,8 +69,11 @@ module _ (c : Call) (e : Event) where
   abbrev found : Row
   found = rowForOf (c .side .role) (c .stand .phase) (c .stand .rev) (cueOf (readOf e))
 
+  abbrev terms : Terms
+  terms = termsOf (c .side .flags) (c .stand) (readOf e)
+
   no-plan : (b : Bool) → isRow found ≡ b → eqb (planFor c e .number) 1 ≡ true → Said (ifRow b found c (readOf e)) true
-  no-plan true h w = differ (sym (one-for-none (c .side .role) (c .stand .phase) (c .stand .rev) (cueOf (readOf e)) _ h) ∙ w)
+  no-plan true h w = differ (sym (zero-or-four (planFor c e .number) (row-plans (c .side .role) (c .stand .phase) (c .stand .rev) (cueOf (readOf e)) terms h)) ∙ w)
   no-plan false h w = by-why (λ (n : ℕ). saysNoRow n ≡ true) (c .side .role) (c .stand .phase) (cueOf (readOf e)) refl refl refl
 
   by-the-table : (h : Bool) → oneUnless h (planFor c e) ≡ true → Said (takesOf c e) (not h)

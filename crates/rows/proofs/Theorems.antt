@@ -1,6 +1,6 @@
 -- THE THEOREMS about the rows, each with its sentence, to be read alone. What they speak of is defined in specs/: Step.antt (`stepOf`,
 -- the answer to an event), Valid.antt (`validOf`, what is a call; `eventOk`, fields in range), History.antt (`run`, `history`: any list
--- of events, refused ones among them), Bill.antt (demand 3) and Promises.antt (the rest); `Shows` and `Told`, the records that say what the
+-- of events, refused ones among them), Bill.antt (demand 3), Reasons.antt (why there was no row, the first bad field) and Promises.antt (the rest); `Shows` and `Told`, the records that say what the
 -- meters show of a bill, stand in Whole.antt and Opened.antt. The files cited prove them.
 -- docs/STATEMENTS.md names a wrong program that each rules out.
 -- Assumes nothing.
@@ -8,7 +8,7 @@ use mathlib.Core.Path.{_≡_, refl}
 use mathlib.Core.Bool.{Bool, true, false, _&&_, not}
 use mathlib.Core.List.{List, _++_}
 use mathlib.Core.Logic.{_↔_}
-use Prim.Native.Nat.{ℕ, _+_, _≤_}
+use Prim.Native.Nat.{ℕ, suc, _+_, _≤_}
 use lib.Dec.{eqb, leb}
 use Rattle.meters.specs.Meters.{newOf, sumOf}
 use Rattle.meters.specs.declared.Payer.the-variants.{Nobody}
@@ -21,9 +21,10 @@ use Rattle.rows.specs.Promises.{saysNoRow, requestHasRow, invokeHasRow}
 use Rattle.rows.specs.Promises.{openingThere, secondsThere, noDuration, lastedIn, withTotal, totalFits}
 use Rattle.rows.specs.Promises.{reversals, Extends, OtherDigits, Redialled, AllRedialled, Renumbered, SameAnswer, numbers}
 use Rattle.rows.specs.Promises.{takesEffect, InEffect, PassedOn, Keeps, OnlyOwn, HoldsOrClears}
-use Rattle.rows.specs.Step.{unopenedCall, totalOf, isOpening, stepOf}
+use Rattle.rows.specs.Reasons.{Looked, Never, OnlyElsewhere, OtherState, reason, SameEvent, FirstOut}
+use Rattle.rows.specs.Step.{unopenedCall, totalOf, isOpening, isUnopened, stepOf}
 use Rattle.rows.specs.Telephone.{absent, sameNumber}
-use Rattle.rows.specs.Valid.{inRange, numberThere, validOf, eventOk}
+use Rattle.rows.specs.Valid.{inRange, numberThere, validOf, rangesOf, eventOk, badFieldOf}
 use Rattle.rows.specs.declared.Call.{Call}
 use Rattle.rows.specs.declared.Event.{Event}
 use Rattle.rows.specs.declared.Event.the-variants.{Opening, Ask, Received, FromAccess, Time}
@@ -42,6 +43,8 @@ use Rattle.rows.proofs.Passed
 use Rattle.rows.proofs.Payers
 use Rattle.rows.proofs.Phases
 use Rattle.rows.proofs.Progress
+use Rattle.rows.proofs.Ranges
+use Rattle.rows.proofs.Reasons
 use Rattle.rows.proofs.Refusals
 use Rattle.rows.proofs.Requests
 use Rattle.rows.proofs.Reversal
@@ -61,6 +64,34 @@ refusal-changes-nothing = Refusals.refusal-changes-nothing
 -- .. and is the refusal of its number and of the field that it names.
 pub refusal-is : (c : Call) (e : Event) → (stepOf c e .number ≡ 0 → ⊥) → stepOf c e ≡ refusedAt (stepOf c e .number) (stepOf c e .field) c
 refusal-is = Refusals.refusal-is
+
+-- 17 is given for an event before the opening, and 18 for another opening, whatever their fields, and for nothing else ..
+pub seventeen-exactly : (c : Call) (e : Event) →
+    (stepOf c e .number ≡ 17) ↔ ((validOf c ≡ true) × (isUnopened (c .stand .phase) ≡ true) × (isOpening e ≡ false))
+seventeen-exactly = Reasons.seventeen-exactly
+
+pub eighteen-exactly : (c : Call) (e : Event) →
+    (stepOf c e .number ≡ 18) ↔ ((validOf c ≡ true) × (isUnopened (c .stand .phase) ≡ false) × (isOpening e ≡ true))
+eighteen-exactly = Reasons.eighteen-exactly
+
+-- .. and then 3 for a field out of range, and for nothing else: the ordinal beside it ..
+pub three-exactly : (c : Call) (e : Event) →
+    (stepOf c e .number ≡ 3) ↔ ((validOf c ≡ true) × (isUnopened (c .stand .phase) ≡ isOpening e) × (eventOk e ≡ false))
+three-exactly = Reasons.three-exactly
+
+pub three-tells : (c : Call) (e : Event) → stepOf c e .number ≡ 3 → stepOf c e .field ≡ badFieldOf e
+three-tells = Reasons.three-tells
+
+-- .. is that of the first field out of range, and every field before it is in range; such a field has no other ..
+pub first-bad-exactly : (e : Event) (k : ℕ) → (badFieldOf e ≡ suc k) ↔ FirstOut (rangesOf e) k
+first-bad-exactly = Ranges.first-bad-exactly
+
+-- .. it is 0 exactly where every field is in range, and no other number has one.
+pub none-bad-exactly : (e : Event) → (badFieldOf e ≡ 0) ↔ (eventOk e ≡ true)
+none-bad-exactly = Ranges.none-bad-exactly
+
+pub else-no-field : (c : Call) (e : Event) → (stepOf c e .number ≡ 3 → ⊥) → stepOf c e .field ≡ 0
+else-no-field = Reasons.else-no-field
 
 -- A call stays a call, whatever the event.
 pub call-stays : (c : Call) (e : Event) → validOf c ≡ true → validOf (stepOf c e .call) ≡ true
@@ -183,6 +214,28 @@ request-no-row-exactly = Requests.request-no-row-exactly
 pub invoke-no-row-exactly : (c : Call) (m : Message) → validOf c ≡ true → eventOk (Received m) ≡ true → isInvoke (m .component) ≡ true →
     saysNoRow (stepOf c (Received m) .number) ≡ not (invokeHasRow (c .side .role) (c .stand .phase) (c .stand .rev) (m .kind) (m .component))
 invoke-no-row-exactly = Requests.invoke-no-row-exactly
+
+-- ---- Why there was no row (02 #106). `Looked`: the call is one, it was opened unless the event is an opening, and the fields are in range
+
+-- 1 is given exactly where the role has no row for the event in any phase and REV state ..
+pub one-exactly : (c : Call) (e : Event) → (stepOf c e .number ≡ 1) ↔ (Looked c e × Never (c .side .role) e)
+one-exactly = Reasons.one-exactly
+
+-- .. 15 exactly where it has one only in another phase ..
+pub fifteen-exactly : (c : Call) (e : Event) → (stepOf c e .number ≡ 15) ↔ (Looked c e × OnlyElsewhere (c .side .role) (c .stand .phase) e)
+fifteen-exactly = Reasons.fifteen-exactly
+
+-- .. and 16 exactly where it has none here, but one in another REV state of this phase.
+pub sixteen-exactly : (c : Call) (e : Event) →
+    (stepOf c e .number ≡ 16) ↔ (Looked c e × OtherState (c .side .role) (c .stand .phase) (c .stand .rev) e)
+sixteen-exactly = Reasons.sixteen-exactly
+
+-- Which of 1, 15, 16, 17 and 18 is given, or none of them (`reason`), depends on role, phase, REV state and what the event is (`SameEvent`),
+-- and on nothing else: no flag, part, cause, error number, telephone number, seconds, meters or what is pending.
+pub same-reason : (c d : Call) (e f : Event) → c .side .role ≡ d .side .role → c .stand .phase ≡ d .stand .phase → c .stand .rev ≡ d .stand .rev →
+    validOf c ≡ true → validOf d ≡ true → eventOk e ≡ true → eventOk f ≡ true → SameEvent e f →
+    reason (stepOf c e .number) ≡ reason (stepOf d f .number)
+same-reason = Reasons.same-reason
 
 -- ---- Demand 3: who pays each answered second of an originating call
 

@@ -6,6 +6,7 @@ pub mod Numbers
 pub mod Perform
 pub mod Promises
 pub mod Read
+pub mod Reasons
 pub mod Rows
 pub mod Step
 pub mod Telephone

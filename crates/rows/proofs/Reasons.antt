@@ -1,0 +1,426 @@
+-- WHY A REFUSAL: each answer comes about in one of six ways, and its number says which.
+-- Assumes nothing.
+use mathlib.Core.Path.{_≡_, refl, sym, _∙_, ap, subst}
+use mathlib.Core.Bool.{Bool, true, false, _&&_, _||_}
+use mathlib.Core.Logic.{_↔_}
+use Prim.Native.Nat.{ℕ}
+use lib.Dec.{eqb}
+use borrow.Author.Tests.{eqb-true, eq-eqb}
+use Rattle.meters.specs.Meters.{changeOf}
+use Rattle.rows.specs.Bill.{pick}
+use Rattle.rows.specs.Find.{rowForOf}
+use Rattle.rows.specs.Perform.{refusedAt, refusedOf, performIf}
+use Rattle.rows.specs.Read.{askedOf, toldOf, heardOf, kindOf, readOf, cueOf, termsOf}
+use Rattle.rows.specs.Reasons.{Looked, rowAt, HasRowIn, Never, OnlyElsewhere, OtherState, reason, SameWord, no-component, an-invoke, a-result}
+use Rattle.rows.specs.Reasons.{an-error, a-reject, SameEvent, an-opening, a-request, a-message, a-word, an-expiry, a-time}
+use Rattle.rows.specs.Step.{ifRow, takesOf, ifInRange, isOpening, isUnopened, ifTimely, ifCall, stepOf}
+use Rattle.rows.specs.Valid.{pickℕ, placedOf, validOf, eventOk, badFieldOf}
+use Rattle.rows.specs.Why.{isRow, someState, somePhase, rowIn, rowEver, whyOf}
+use Rattle.rows.specs.declared.Call.{Call}
+use Rattle.rows.specs.declared.Component.{Component}
+use Rattle.rows.specs.declared.Cue.{Cue}
+use Rattle.rows.specs.declared.Event.{Event}
+use Rattle.rows.specs.declared.Event.the-variants.{Opening}
+use Rattle.rows.specs.declared.Heard.{Heard}
+use Rattle.rows.specs.declared.Number.{Number}
+use Rattle.rows.specs.declared.Outcome.{Outcome}
+use Rattle.rows.specs.declared.Phase.{Phase}
+use Rattle.rows.specs.declared.Phase.the-variants.{Unopened, Null, Setup, Answered, Cleared}
+use Rattle.rows.specs.declared.Plan.{Plan}
+use Rattle.rows.specs.declared.Reading.{Reading}
+use Rattle.rows.specs.declared.RevState.{RevState}
+use Rattle.rows.specs.declared.RevState.the-variants.{Idle, WaitSetup, WaitActive, WaitAnswer, Active, WaitSetupConf, WaitActiveConf}
+use Rattle.rows.specs.declared.RevState.the-variants.{WaitCalled}
+use Rattle.rows.specs.declared.Role.{Role}
+use Rattle.rows.specs.declared.Role.the-variants.{Originating, Destination}
+use Rattle.rows.specs.declared.Row.{Row}
+use Rattle.rows.proofs.Answers.{planFor, performed, settled, by-why}
+use Rattle.rows.proofs.Found.{row-plans}
+use Rattle.rows.proofs.Progress.{valid-place}
+use Rattle.rows.proofs.Truth.{both, differ, either, left, or-true, right}
+
+-- ---- The six ways
+
+pub data Way (c : Call) (e : Event) : Outcome → Type 0 where
+  no-call : validOf c ≡ false → Way c e (refusedOf 9 c)
+  too-early : validOf c ≡ true → isUnopened (c .stand .phase) ≡ true → isOpening e ≡ false → Way c e (refusedOf 17 c)
+  once-more : validOf c ≡ true → isUnopened (c .stand .phase) ≡ false → isOpening e ≡ true → Way c e (refusedOf 18 c)
+  out-of-range : validOf c ≡ true → isUnopened (c .stand .phase) ≡ isOpening e → eventOk e ≡ false → Way c e (refusedAt 3 (badFieldOf e) c)
+  no-row : Looked c e → isRow (rowAt (c .side .role) (c .stand .phase) (c .stand .rev) e) ≡ false →
+      Way c e (refusedOf (whyOf (c .side .role) (c .stand .phase) (cueOf (readOf e))) c)
+  a-row : Looked c e → isRow (rowAt (c .side .role) (c .stand .phase) (c .stand .rev) e) ≡ true → Way c e (performed c e)
+
+module _ (c : Call) (e : Event) where
+  abbrev row : Row
+  row = rowAt (c .side .role) (c .stand .phase) (c .stand .rev) e
+
+  by-row : Looked c e → (b : Bool) → isRow row ≡ b → Way c e (ifRow b row c (readOf e))
+  by-row l true h = a-row l h
+  by-row l false h = no-row l h
+
+  by-range : validOf c ≡ true → isUnopened (c .stand .phase) ≡ isOpening e → (b : Bool) → eventOk e ≡ b → Way c e (ifInRange b c e)
+  by-range v t true h = by-row (record { valid = v; timely = t; ranged = h }) (isRow row) refl
+  by-range v t false h = out-of-range v t h
+
+  by-time : validOf c ≡ true → (a b : Bool) → isUnopened (c .stand .phase) ≡ a → isOpening e ≡ b → Way c e (ifTimely a b c e)
+  by-time v true true h i = by-range v (h ∙ sym i) (eventOk e) refl
+  by-time v true false h i = too-early v h i
+  by-time v false true h i = once-more v h i
+  by-time v false false h i = by-range v (h ∙ sym i) (eventOk e) refl
+
+  by-call : (b : Bool) → validOf c ≡ b → Way c e (ifCall b c e)
+  by-call true h = by-time h (isUnopened (c .stand .phase)) (isOpening e) refl refl
+  by-call false h = no-call h
+
+  pub way : Way c e (stepOf c e)
+  way = by-call (validOf c) refl
+
+-- ---- What a row gives: 0, 2, 4 or 10, and no field
+
+abbrev pub ofARow : ℕ → Bool
+ofARow n = eqb n 0 || (eqb n 2 || (eqb n 4 || eqb n 10))
+
+performed-number : (c : Call) (p : Plan) (r : Reading) (b : Bool) → eqb (p .number) 0 ≡ b → (b || eqb (p .number) 4) ≡ true →
+    ofARow (performIf b c p r .number) ≡ true
+performed-number c p r true h i =
+    settled (λ (o : Outcome). ofARow (o .number) ≡ true) (changeOf (p .change) (c .meters) (r .seconds)) c p r (λ n d. refl) refl refl
+performed-number c p r false h i = ap ofARow (eqb-true (p .number) 4 i)
+
+row-number : (c : Call) (e : Event) → isRow (row c e) ≡ true → ofARow (performed c e .number) ≡ true
+row-number c e h =
+    performed-number c (planFor c e) (readOf e) (eqb (planFor c e .number) 0) refl
+    (row-plans (c .side .role) (c .stand .phase) (c .stand .rev) (cueOf (readOf e)) (termsOf (c .side .flags) (c .stand) (readOf e)) h)
+
+performed-field : (c : Call) (p : Plan) (r : Reading) (b : Bool) → performIf b c p r .field ≡ 0
+performed-field c p r true =
+    settled (λ (o : Outcome). o .field ≡ 0) (changeOf (p .change) (c .meters) (r .seconds)) c p r (λ n d. refl) refl refl
+performed-field c p r false = refl
+
+not-of-a-row : {A : Type 0} (n m : ℕ) → ofARow n ≡ true → ofARow m ≡ false → n ≡ m → A
+not-of-a-row n m h i j = differ (sym i ∙ sym (ap ofARow j) ∙ h)
+
+-- one of 1, 15 and 16, so none of the others
+abbrev aReason : ℕ → Bool
+aReason n = eqb n 1 || (eqb n 15 || eqb n 16)
+
+why-a-reason : (r : Role) (p : Phase) (e : Cue) → aReason (whyOf r p e) ≡ true
+why-a-reason r p e = by-why (λ (n : ℕ). aReason n ≡ true) r p e refl refl refl
+
+not-a-reason : {A : Type 0} (r : Role) (p : Phase) (e : Cue) (m : ℕ) → aReason m ≡ false → whyOf r p e ≡ m → A
+not-a-reason r p e m h i = differ (sym h ∙ sym (ap aReason i) ∙ why-a-reason r p e)
+
+not-equal : {A : Type 0} (n m : ℕ) → eqb n m ≡ false → n ≡ m → A
+not-equal n m h i = differ (sym h ∙ eq-eqb n m i)
+
+-- what follows from a number that no row gives, by the ways that may give it
+module _ (c : Call) (e : Event) (n : ℕ) (q : ofARow n ≡ false) {A : Type 0} (nine : validOf c ≡ false → 9 ≡ n → A)
+    (early : validOf c ≡ true → isUnopened (c .stand .phase) ≡ true → isOpening e ≡ false → 17 ≡ n → A)
+    (again : validOf c ≡ true → isUnopened (c .stand .phase) ≡ false → isOpening e ≡ true → 18 ≡ n → A)
+    (bad : validOf c ≡ true → isUnopened (c .stand .phase) ≡ isOpening e → eventOk e ≡ false → 3 ≡ n → A)
+    (missing : Looked c e → isRow (row c e) ≡ false → whyOf (c .side .role) (c .stand .phase) (cueOf (readOf e)) ≡ n → A) where
+  by-way : {o : Outcome} → Way c e o → o .number ≡ n → A
+  by-way (no-call v) h = nine v h
+  by-way (too-early v u i) h = early v u i h
+  by-way (once-more v u i) h = again v u i h
+  by-way (out-of-range v t k) h = bad v t k h
+  by-way (no-row l w) h = missing l w h
+  by-way (a-row l w) h = not-of-a-row (performed c e .number) n (row-number c e w) q h
+
+  by-number : stepOf c e .number ≡ n → A
+  by-number = by-way (way c e)
+
+-- ---- 17, 18 and 3
+
+pub seventeen-exactly : (c : Call) (e : Event) →
+    (stepOf c e .number ≡ 17) ↔ ((validOf c ≡ true) × (isUnopened (c .stand .phase) ≡ true) × (isOpening e ≡ false))
+seventeen-exactly c e = (
+  by-number c e 17 refl (λ v. not-equal 9 17 refl) (λ v u i h. (v, u, i)) (λ v u i. not-equal 18 17 refl) (λ v t k. not-equal 3 17 refl)
+      (λ l w. not-a-reason (c .side .role) (c .stand .phase) (cueOf (readOf e)) 17 refl),
+  given,
+)
+  where
+    given : (validOf c ≡ true) × (isUnopened (c .stand .phase) ≡ true) × (isOpening e ≡ false) → stepOf c e .number ≡ 17
+    given (v, u, i) =
+        ap (λ (b : Bool). ifCall b c e .number) v ∙ ap (λ (b : Bool). ifTimely b (isOpening e) c e .number) u
+        ∙ ap (λ (b : Bool). ifTimely true b c e .number) i
+
+pub eighteen-exactly : (c : Call) (e : Event) →
+    (stepOf c e .number ≡ 18) ↔ ((validOf c ≡ true) × (isUnopened (c .stand .phase) ≡ false) × (isOpening e ≡ true))
+eighteen-exactly c e = (
+  by-number c e 18 refl (λ v. not-equal 9 18 refl) (λ v u i. not-equal 17 18 refl) (λ v u i h. (v, u, i)) (λ v t k. not-equal 3 18 refl)
+      (λ l w. not-a-reason (c .side .role) (c .stand .phase) (cueOf (readOf e)) 18 refl),
+  given,
+)
+  where
+    given : (validOf c ≡ true) × (isUnopened (c .stand .phase) ≡ false) × (isOpening e ≡ true) → stepOf c e .number ≡ 18
+    given (v, u, i) =
+        ap (λ (b : Bool). ifCall b c e .number) v ∙ ap (λ (b : Bool). ifTimely b (isOpening e) c e .number) u
+        ∙ ap (λ (b : Bool). ifTimely false b c e .number) i
+
+-- timely: nothing but the fields and the tables is left to judge
+both-ways : (c : Call) (e : Event) (a : Bool) → ifTimely a a c e ≡ ifInRange (eventOk e) c e
+both-ways c e true = refl
+both-ways c e false = refl
+
+timely-step : (c : Call) (e : Event) → validOf c ≡ true → isUnopened (c .stand .phase) ≡ isOpening e → stepOf c e ≡ ifInRange (eventOk e) c e
+timely-step c e v t =
+    ap (λ (b : Bool). ifCall b c e) v ∙ ap (λ (b : Bool). ifTimely b (isOpening e) c e) t ∙ both-ways c e (isOpening e)
+
+pub three-exactly : (c : Call) (e : Event) →
+    (stepOf c e .number ≡ 3) ↔ ((validOf c ≡ true) × (isUnopened (c .stand .phase) ≡ isOpening e) × (eventOk e ≡ false))
+three-exactly c e = (
+  by-number c e 3 refl (λ v. not-equal 9 3 refl) (λ v u i. not-equal 17 3 refl) (λ v u i. not-equal 18 3 refl) (λ v t k h. (v, t, k))
+      (λ l w. not-a-reason (c .side .role) (c .stand .phase) (cueOf (readOf e)) 3 refl),
+  given,
+)
+  where
+    given : (validOf c ≡ true) × (isUnopened (c .stand .phase) ≡ isOpening e) × (eventOk e ≡ false) → stepOf c e .number ≡ 3
+    given (v, t, k) = ap (λ (o : Outcome). o .number) (timely-step c e v t) ∙ ap (λ (b : Bool). ifInRange b c e .number) k
+
+-- the ordinal is told beside 3, and 0 beside every other number
+pub three-tells : (c : Call) (e : Event) → stepOf c e .number ≡ 3 → stepOf c e .field ≡ badFieldOf e
+three-tells c e = told (way c e)
+  where
+    told : {o : Outcome} → Way c e o → o .number ≡ 3 → o .field ≡ badFieldOf e
+    told (no-call v) h = not-equal 9 3 refl h
+    told (too-early v u i) h = not-equal 17 3 refl h
+    told (once-more v u i) h = not-equal 18 3 refl h
+    told (out-of-range v t k) h = refl
+    told (no-row l w) h = not-a-reason (c .side .role) (c .stand .phase) (cueOf (readOf e)) 3 refl h
+    told (a-row l w) h = not-of-a-row (performed c e .number) 3 (row-number c e w) refl h
+
+pub else-no-field : (c : Call) (e : Event) → (stepOf c e .number ≡ 3 → ⊥) → stepOf c e .field ≡ 0
+else-no-field c e = told (way c e)
+  where
+    told : {o : Outcome} → Way c e o → (o .number ≡ 3 → ⊥) → o .field ≡ 0
+    told (no-call v) h = refl
+    told (too-early v u i) h = refl
+    told (once-more v u i) h = refl
+    told (out-of-range v t k) h = absurd (h refl)
+    told (no-row l w) h = refl
+    told (a-row l w) h = performed-field c (planFor c e) (readOf e) (eqb (planFor c e .number) 0)
+
+-- ---- A row in a phase, and at any time: the tests and what they say
+
+or-left : (a b : Bool) → a ≡ true → (a || b) ≡ true
+or-left true b h = refl
+or-left false b h = differ h
+
+some-state : (f : RevState → Bool) (s : RevState) → f s ≡ true → someState f ≡ true
+some-state f Idle h = or-left _ _ h
+some-state f WaitSetup h = or-true (f Idle) _ (or-left _ _ h)
+some-state f WaitActive h = or-true (f Idle) _ (or-true (f WaitSetup) _ (or-left _ _ h))
+some-state f WaitAnswer h = or-true (f Idle) _ (or-true (f WaitSetup) _ (or-true (f WaitActive) _ (or-left _ _ h)))
+some-state f Active h = or-true (f Idle) _ (or-true (f WaitSetup) _ (or-true (f WaitActive) _ (or-true (f WaitAnswer) _ (or-left _ _ h))))
+some-state f WaitSetupConf h =
+    or-true (f Idle) _ (or-true (f WaitSetup) _ (or-true (f WaitActive) _ (or-true (f WaitAnswer) _ (or-true (f Active) _ (or-left _ _ h)))))
+some-state f WaitActiveConf h =
+    or-true (f Idle) _
+    (or-true (f WaitSetup) _ (or-true (f WaitActive) _ (or-true (f WaitAnswer) _ (or-true (f Active) _ (or-true (f WaitSetupConf) _ (or-left _ _ h))))))
+some-state f WaitCalled h =
+    or-true (f Idle) _
+    (or-true (f WaitSetup) _
+    (or-true (f WaitActive) _ (or-true (f WaitAnswer) _ (or-true (f Active) _ (or-true (f WaitSetupConf) _ (or-true (f WaitActiveConf) _ h))))))
+
+which-state : (f : RevState → Bool) → someState f ≡ true → (s : RevState) × (f s ≡ true)
+which-state f h =
+    either (f Idle) _ h (λ i. (Idle, i)) (λ h.
+    either (f WaitSetup) _ h (λ i. (WaitSetup, i)) (λ h.
+    either (f WaitActive) _ h (λ i. (WaitActive, i)) (λ h.
+    either (f WaitAnswer) _ h (λ i. (WaitAnswer, i)) (λ h.
+    either (f Active) _ h (λ i. (Active, i)) (λ h.
+    either (f WaitSetupConf) _ h (λ i. (WaitSetupConf, i)) (λ h.
+    either (f WaitActiveConf) _ h (λ i. (WaitActiveConf, i)) (λ i. (WaitCalled, i))))))))
+
+some-phase : (f : Phase → Bool) (p : Phase) → f p ≡ true → somePhase f ≡ true
+some-phase f Unopened h = or-left _ _ h
+some-phase f Null h = or-true (f Unopened) _ (or-left _ _ h)
+some-phase f Setup h = or-true (f Unopened) _ (or-true (f Null) _ (or-left _ _ h))
+some-phase f Answered h = or-true (f Unopened) _ (or-true (f Null) _ (or-true (f Setup) _ (or-left _ _ h)))
+some-phase f Cleared h = or-true (f Unopened) _ (or-true (f Null) _ (or-true (f Setup) _ (or-true (f Answered) _ h)))
+
+which-phase : (f : Phase → Bool) → somePhase f ≡ true → (p : Phase) × (f p ≡ true)
+which-phase f h =
+    either (f Unopened) _ h (λ i. (Unopened, i)) (λ h.
+    either (f Null) _ h (λ i. (Null, i)) (λ h.
+    either (f Setup) _ h (λ i. (Setup, i)) (λ h. either (f Answered) _ h (λ i. (Answered, i)) (λ i. (Cleared, i)))))
+
+module _ (r : Role) (e : Event) where
+  abbrev cue : Cue
+  cue = cueOf (readOf e)
+
+  has : (p : Phase) → rowIn r p cue ≡ true → HasRowIn r p e
+  has p h =
+      let w = which-state (λ s. placedOf r p s && isRow (rowAt r p s e)) h in
+      record { rev = w .0; placed = left (placedOf r p (w .0)) _ (w .1); row = right (placedOf r p (w .0)) _ (w .1) }
+
+  found : (p : Phase) → HasRowIn r p e → rowIn r p cue ≡ true
+  found p h = some-state (λ s. placedOf r p s && isRow (rowAt r p s e)) (h .rev) (both (h .placed) (h .row))
+
+  ever : (p : Phase) → HasRowIn r p e → rowEver r cue ≡ true
+  ever p h = some-phase (λ q. rowIn r q cue) p (found p h)
+
+  sometime : rowEver r cue ≡ true → (q : Phase) × HasRowIn r q e
+  sometime h = let w = which-phase (λ q. rowIn r q cue) h in (w .0, has (w .0) (w .1))
+
+  none : (p : Phase) → rowIn r p cue ≡ false → HasRowIn r p e → ⊥
+  none p h i = differ (sym h ∙ found p i)
+
+  -- the number, by what the tables have
+  sixteen : (p : Phase) (b : Bool) → rowIn r p cue ≡ b → pickℕ b 16 (pickℕ (rowEver r cue) 15 1) ≡ 16 → HasRowIn r p e
+  sixteen p true h i = has p h
+  sixteen p false h i = other (rowEver r cue) i
+    where
+      other : (d : Bool) → pickℕ d 15 1 ≡ 16 → HasRowIn r p e
+      other true j = not-equal 15 16 refl j
+      other false j = not-equal 1 16 refl j
+
+  fifteen : (p : Phase) (b d : Bool) → rowIn r p cue ≡ b → rowEver r cue ≡ d → pickℕ b 16 (pickℕ d 15 1) ≡ 15 → OnlyElsewhere r p e
+  fifteen p true d h k i = not-equal 16 15 refl i
+  fifteen p false true h k i = (none p h, sometime k)
+  fifteen p false false h k i = not-equal 1 15 refl i
+
+  one : (p : Phase) (b d : Bool) → rowIn r p cue ≡ b → rowEver r cue ≡ d → pickℕ b 16 (pickℕ d 15 1) ≡ 1 → Never r e
+  one p true d h k i = not-equal 16 1 refl i
+  one p false true h k i = not-equal 15 1 refl i
+  one p false false h k i = λ q w. differ (sym k ∙ ever q w)
+
+is-false : (b : Bool) → (b ≡ true → ⊥) → b ≡ false
+is-false true h = absurd (h refl)
+is-false false h = refl
+
+-- ---- 1, 15 and 16
+
+module _ (c : Call) (e : Event) where
+  abbrev R : Role
+  R = c .side .role
+
+  abbrev P : Phase
+  P = c .stand .phase
+
+  -- a call's own place is one that 01 allows
+  here : Looked c e → isRow (row c e) ≡ true → HasRowIn R P e
+  here l h = record { rev = c .stand .rev; placed = valid-place c (l .valid); row = h }
+
+  -- where nothing was found the number is what the tables have
+  unfound : Looked c e → isRow (row c e) ≡ false → stepOf c e .number ≡ whyOf R P (cueOf (readOf e))
+  unfound l h =
+      ap (λ (o : Outcome). o .number) (timely-step c e (l .valid) (l .timely)) ∙ ap (λ (b : Bool). ifInRange b c e .number) (l .ranged)
+      ∙ ap (λ (b : Bool). ifRow b (row c e) c (readOf e) .number) h
+
+  pub one-exactly : (stepOf c e .number ≡ 1) ↔ (Looked c e × Never R e)
+  one-exactly = (
+    by-number c e 1 refl (λ v. not-equal 9 1 refl) (λ v u i. not-equal 17 1 refl) (λ v u i. not-equal 18 1 refl) (λ v t k. not-equal 3 1 refl)
+        (λ l w h. (l, one R e P (rowIn R P (cueOf (readOf e))) (rowEver R (cueOf (readOf e))) refl refl h)),
+    given,
+  )
+    where
+      given : Looked c e × Never R e → stepOf c e .number ≡ 1
+      given (l, n) =
+          unfound l (is-false (isRow (row c e)) (λ h. n P (here l h)))
+          ∙ ap (λ (b : Bool). pickℕ b 16 (pickℕ (rowEver R (cueOf (readOf e))) 15 1)) (is-false (rowIn R P (cueOf (readOf e))) (λ h. n P (has R e P h)))
+          ∙ ap (λ (b : Bool). pickℕ b 15 1)
+          (is-false (rowEver R (cueOf (readOf e))) (λ h. let w = sometime R e h in n (w .0) (w .1)))
+
+  pub fifteen-exactly : (stepOf c e .number ≡ 15) ↔ (Looked c e × OnlyElsewhere R P e)
+  fifteen-exactly = (
+    by-number c e 15 refl (λ v. not-equal 9 15 refl) (λ v u i. not-equal 17 15 refl) (λ v u i. not-equal 18 15 refl) (λ v t k. not-equal 3 15 refl)
+        (λ l w h. (l, fifteen R e P (rowIn R P (cueOf (readOf e))) (rowEver R (cueOf (readOf e))) refl refl h)),
+    given,
+  )
+    where
+      given : Looked c e × OnlyElsewhere R P e → stepOf c e .number ≡ 15
+      given (l, (n, (q, w))) =
+          unfound l (is-false (isRow (row c e)) (λ h. n (here l h)))
+          ∙ ap (λ (b : Bool). pickℕ b 16 (pickℕ (rowEver R (cueOf (readOf e))) 15 1)) (is-false (rowIn R P (cueOf (readOf e))) (λ h. n (has R e P h)))
+          ∙ ap (λ (b : Bool). pickℕ b 15 1) (ever R e q w)
+
+  pub sixteen-exactly : (stepOf c e .number ≡ 16) ↔ (Looked c e × OtherState R P (c .stand .rev) e)
+  sixteen-exactly = (
+    by-number c e 16 refl (λ v. not-equal 9 16 refl) (λ v u i. not-equal 17 16 refl) (λ v u i. not-equal 18 16 refl) (λ v t k. not-equal 3 16 refl)
+        (λ l w h. (l, (w, sixteen R e P (rowIn R P (cueOf (readOf e))) refl h))),
+    given,
+  )
+    where
+      given : Looked c e × OtherState R P (c .stand .rev) e → stepOf c e .number ≡ 16
+      given (l, (w, i)) =
+          unfound l w ∙ ap (λ (b : Bool). pickℕ b 16 (pickℕ (rowEver R (cueOf (readOf e))) 15 1)) (found R e P i)
+
+-- ---- What the reason depends on
+
+-- by whether the call was opened, whether the event is an opening, whether a row was found, and else why
+abbrev reasonAt : Bool → Bool → Bool → ℕ → ℕ
+reasonAt true true w n = pick w 0 n
+reasonAt true false w n = 17
+reasonAt false true w n = 18
+reasonAt false false w n = pick w 0 n
+
+row-no-reason : (n : ℕ) → ofARow n ≡ true → reason n ≡ 0
+row-no-reason n h =
+    either (eqb n 0) _ h (λ i. ap reason (eqb-true n 0 i)) (λ h.
+    either (eqb n 2) _ h (λ i. ap reason (eqb-true n 2 i)) (λ h.
+    either (eqb n 4) _ h (λ i. ap reason (eqb-true n 4 i)) (λ i. ap reason (eqb-true n 10 i))))
+
+abbrev reasonBy : Role → Phase → RevState → Cue → Bool → ℕ
+reasonBy r p s q o = reasonAt (isUnopened p) o (isRow (rowForOf r p s q)) (whyOf r p q)
+
+module _ (c : Call) (e : Event) (v : validOf c ≡ true) (k : eventOk e ≡ true) where
+  of-the-row : (b : Bool) → isRow (row c e) ≡ b →
+      reason (ifRow b (row c e) c (readOf e) .number) ≡ pick b 0 (whyOf (c .side .role) (c .stand .phase) (cueOf (readOf e)))
+  of-the-row true h = row-no-reason (performed c e .number) (row-number c e h)
+  of-the-row false h = by-why (λ (n : ℕ). reason n ≡ n) (c .side .role) (c .stand .phase) (cueOf (readOf e)) refl refl refl
+
+  ranged-reason : reason (ifInRange (eventOk e) c e .number) ≡ pick (isRow (row c e)) 0 (whyOf (c .side .role) (c .stand .phase) (cueOf (readOf e)))
+  ranged-reason = ap (λ (b : Bool). reason (ifInRange b c e .number)) k ∙ of-the-row (isRow (row c e)) refl
+
+  in-its-time : (a b : Bool) →
+      reason (ifTimely a b c e .number) ≡ reasonAt a b (isRow (row c e)) (whyOf (c .side .role) (c .stand .phase) (cueOf (readOf e)))
+  in-its-time true true = ranged-reason
+  in-its-time true false = refl
+  in-its-time false true = refl
+  in-its-time false false = ranged-reason
+
+  by-place : reason (stepOf c e .number) ≡ reasonBy (c .side .role) (c .stand .phase) (c .stand .rev) (cueOf (readOf e)) (isOpening e)
+  by-place = ap (λ (b : Bool). reason (ifCall b c e .number)) v ∙ in-its-time (isUnopened (c .stand .phase)) (isOpening e)
+
+-- an opening's role and flags are not looked at
+opening-reason : (r : Role) (p : Phase) (s : RevState) (k f : ℕ) (n : Number) →
+    reasonBy r p s (cueOf (readOf (Opening k f n))) true ≡ pick (isUnopened p) 0 18
+opening-reason Originating Unopened s k f n = refl
+opening-reason Originating Null s k f n = refl
+opening-reason Originating Setup s k f n = refl
+opening-reason Originating Answered s k f n = refl
+opening-reason Originating Cleared s k f n = refl
+opening-reason Destination Unopened s k f n = refl
+opening-reason Destination Null s k f n = refl
+opening-reason Destination Setup s k f n = refl
+opening-reason Destination Answered s k f n = refl
+opening-reason Destination Cleared s k f n = refl
+
+same-heard : {x y : Component} → SameWord x y → heardOf x ≡ heardOf y
+same-heard no-component = refl
+same-heard an-invoke = refl
+same-heard a-result = refl
+same-heard an-error = refl
+same-heard a-reject = refl
+
+same-by : (r : Role) (p : Phase) (s : RevState) {e f : Event} → SameEvent e f →
+    reasonBy r p s (cueOf (readOf e)) (isOpening e) ≡ reasonBy r p s (cueOf (readOf f)) (isOpening f)
+same-by r p s (an-opening {r = k} {f = g} {r′ = k′} {f′ = g′} {n = n} {n′ = n′}) = opening-reason r p s k g n ∙ sym (opening-reason r p s k′ g′ n′)
+same-by r p s a-request = refl
+same-by r p s (a-message {k = k} w) =
+    ap (λ (h : Heard). reasonBy r p s (record { kind = kindOf k; asked = askedOf 0; heard = h; told = toldOf 0 }) false) (same-heard w)
+same-by r p s a-word = refl
+same-by r p s an-expiry = refl
+same-by r p s a-time = refl
+
+pub same-reason : (c d : Call) (e f : Event) → c .side .role ≡ d .side .role → c .stand .phase ≡ d .stand .phase → c .stand .rev ≡ d .stand .rev →
+    validOf c ≡ true → validOf d ≡ true → eventOk e ≡ true → eventOk f ≡ true → SameEvent e f →
+    reason (stepOf c e .number) ≡ reason (stepOf d f .number)
+same-reason c d e f r p s v w k l z =
+    by-place c e v k
+    ∙ ap (λ (x : Role). reasonBy x (c .stand .phase) (c .stand .rev) (cueOf (readOf e)) (isOpening e)) r
+    ∙ ap (λ (x : Phase). reasonBy (d .side .role) x (c .stand .rev) (cueOf (readOf e)) (isOpening e)) p
+    ∙ ap (λ (x : RevState). reasonBy (d .side .role) (d .stand .phase) x (cueOf (readOf e)) (isOpening e)) s
+    ∙ same-by (d .side .role) (d .stand .phase) (d .stand .rev) z
+    ∙ sym (by-place d f w l)
