@@ -20,7 +20,7 @@ use Rattle.rows.specs.declared.Act.the-variants.{NotifyAccepted, AccessS
 use Rattle.rows.specs.declared.Act.the-variants.{ChargeCalled, Stop}
 use Rattle.rows.specs.declared.Call.{Call}
 use Rattle.rows.specs.declared.Component.{Component}
-use Rattle.rows.specs.declared.Component.the-variants.{Absent, Invoke, Result, Error}
+use Rattle.rows.specs.declared.Component.the-variants.{Absent, Invoke, Result, Error, Unknown}
 use Rattle.rows.specs.declared.Event.{Event}
 use Rattle.rows.specs.declared.Event.the-variants.{Opening, Ask, Received, FromAccess, Expiry, Time}
 use Rattle.rows.specs.declared.Message.{Message}
@@ -352,6 +352,55 @@ pressed-at-set-up : run unopenedCall
     ∷ line 0 Answered Active 0 0 0 (sends (plain anm 0 (Absent 0)) ∷ [])
     ∷ []
 pressed-at-set-up = refl
+
+-- ---- Why there was no row, 02 #106
+
+-- before the opening, and at another one, whatever the fields; an opening with a bad field is 3
+abbrev idly : ℕ → Phase → Line
+idly n p = line n p Idle 0 0 0 []
+
+in-its-time : run unopenedCall (Expiry ∷ Time 86401 ∷ Opening 0 32 room ∷ Opening 0 8 room ∷ Opening 9 99 absent ∷ Opening 1 8 room ∷ [])
+    ≡ idly 17 Unopened ∷ idly 17 Unopened ∷ idly 3 Unopened ∷ idly 0 Null ∷ idly 18 Null ∷ idly 18 Null ∷ []
+in-its-time = refl
+
+-- what an event without a row is told at an originating call in ANSWERED, IDLE
+abbrev reasonFor : Event → ℕ
+reasonFor e = stepOf (talked 40) e .number
+
+-- at any time: an IAM; an answer of the own access. In another phase: a basic call; an answer. In another REV state: A and C, an expiry
+reasons : (reasonFor (Received (plain iam 0 (Absent 0))) ≡ 1) × (reasonFor (FromAccess 5 0) ≡ 1) × (reasonFor (Ask 0 room) ≡ 15)
+    × (reasonFor (Received (plain anm 0 (Absent 0))) ≡ 15) × (reasonFor (Ask 1 room) ≡ 16) × (reasonFor (Ask 3 absent) ≡ 16)
+    × (reasonFor Expiry ≡ 16)
+reasons = (refl, refl, refl, refl, refl, refl, refl)
+
+-- a cleared call: no REV state but IDLE, so never 16
+reasons-at-the-end : run (talked 40) (FromAccess 4 0 ∷ Expiry ∷ Received (plain iam 0 (Absent 0)) ∷ Opening 0 8 room ∷ [])
+    ≡ line 0 Cleared Idle 40 0 0 (does Stop ∷ sends (plain rel normalClearing (Absent 0)) ∷ [])
+    ∷ line 15 Cleared Idle 40 0 0 [] ∷ line 1 Cleared Idle 40 0 0 [] ∷ line 18 Cleared Idle 40 0 0 [] ∷ []
+reasons-at-the-end = refl
+
+-- "first bad field first; a number is one field"
+abbrev field : Event → ℕ
+field e = stepOf (talked 40) e .field
+
+fields : (stepOf unopenedCall (Opening 2 32 absent) .field ≡ 1) × (stepOf unopenedCall (Opening 1 32 absent) .field ≡ 2)
+    × (stepOf unopenedCall (Opening 1 31 absent) .field ≡ 3) × (field (Ask 4 absent) ≡ 1) × (field (Ask 1 absent) ≡ 2) × (field (Ask 2 room) ≡ 2)
+    × (field (FromAccess 6 1) ≡ 1) × (field (FromAccess 4 1) ≡ 2) × (field (Time 86401) ≡ 1) × (field (Time 86400) ≡ 0)
+fields = (refl, refl, refl, refl, refl, refl, refl, refl, refl, refl)
+
+-- a message: kind, cause, component, operation or error, parts (a number or Duration that they do not name too), then those present
+fields-of-a-message : (field (Received (message 6 128 (Unknown 5 9) 128 absent absent 0)) ≡ 1)
+    × (field (Received (message fac 128 (Unknown 5 9) 128 absent absent 0)) ≡ 2)
+    × (field (Received (message fac 0 (Unknown 5 9) 128 absent absent 0)) ≡ 3)
+    × (field (Received (message fac 0 (Invoke 4) 128 absent absent 0)) ≡ 4)
+    × (field (Received (message fac 0 (Invoke 3) 4 absent absent 0)) ≡ 5)
+    × (field (Received (message fac 0 (Invoke 3) callingPart absent room 0)) ≡ 5)
+    × (field (Received (message fac 0 (Invoke 3) callingPart absent absent 7)) ≡ 5)
+    × (field (Received (message fac 0 (Invoke 3) (callingPart + calledPart) absent absent 0)) ≡ 6)
+    × (field (Received (message fac 0 (Invoke 3) (callingPart + calledPart) room absent 0)) ≡ 7)
+    × (field (Received (message fac 0 (Invoke 3) calledPart absent absent 0)) ≡ 6)
+    × (field (Received (message fac 0 (Invoke 3) calledPart absent room 0)) ≡ 0)
+fields-of-a-message = (refl, refl, refl, refl, refl, refl, refl, refl, refl, refl, refl)
 
 -- ---- STOP in D42 and D52: from an opening the far exchange pays in these states, but a host may hand in a call that the called user pays
 
