@@ -2,11 +2,10 @@
 -- Assumes nothing.
 use Prim.Native.Nat.{ℕ}
 
--- 01, "Numbers given back": a row applied, or why not
+-- 01, "Numbers given back": a row applied, or why not. 02 #106: "1 stays for an event that has no row in this role at any time"
 abbrev pub applied : ℕ
 applied = 0
 
--- 02 #106: "1 stays for an event that has no row in this role at any time"
 abbrev pub noRow : ℕ
 noRow = 1
 
@@ -25,7 +24,7 @@ notACall = 9
 abbrev pub nobodyPays : ℕ
 nobodyPays = 10
 
--- 02 #106: "15 is for the wrong phase"; "16 for the wrong REV state"; "An event before the opening gets 17 and a second opening 18"
+-- 02 #106, beside 01's "Numbers given back": "15 is for the wrong phase", "16 for the wrong REV state", "An event before the opening gets 17 and a second opening 18"
 abbrev pub wrongPhase : ℕ
 wrongPhase = 15
 
