@@ -12,13 +12,14 @@ use Rattle.text.proofs.Cases.{no-lt, yes-eq, no-eq, both-eq}
 use Rattle.wire.specs.Bytes.{byteAt}
 use Rattle.wire.specs.Grammar.{invokeOf, resultOf, errorOf, rejectOf, kindOf, wholeOf, componentOf}
 use Rattle.wire.specs.Parameters.{holds, before, onward, walkOf, framedOf, parameterOf}
-use Rattle.wire.specs.Texts.{elementText, partsText, seqText, idText, rejectedText, codeText, invokeText, heldText, resultText, errorText, rejectText, componentText, parameterText, argumentOk, resultOk, writableOf}
+use Rattle.wire.specs.Texts.{elementText, partsText, seqText, idText, rejectedText, codeText, invokeText, heldText, resultText, errorText, rejectText, componentText, parameterText}
+use Rattle.wire.specs.Writable.{argumentOk, resultOk, writableOf}
 use Rattle.wire.specs.declared.Answer.{Answer}
 use Rattle.wire.specs.declared.Component.{Component}
 use Rattle.wire.specs.declared.Frame.{Frame}
 use Rattle.wire.proofs.Pieces.{by-invoke, by-result, by-error, by-reject}
 use Rattle.wire.proofs.Back.{Holds, holds-right, holds-after, holds-take, head-here}
-use Rattle.wire.proofs.Goods.{Good, Kinds, calls, answers, fails, rejects, range-inv, Sized, written-good, parts-short}
+use Rattle.wire.proofs.Goods.{Good, Kinds, calls, answers, fails, rejects, Sized, written-good, parts-short}
 use Rattle.wire.proofs.Round.{invoke-back, result-back, error-back, reject-named, reject-nameless}
 use Rattle.wire.proofs.Walks.{walk-end, walk-on, good-walk}
 
@@ -141,18 +142,15 @@ module _ (s : List ℕ) (q : ℕ) (c : Component) (g : Good c) where
 
   by-kinds : Kinds (c .kind) (c .item) (c .parts) (c .id) → Holds s q (componentText c) → q + length (componentText c) ≤ length s
       → componentOf s q ≡ Answer.Read c (q + length (componentText c))
-  by-kinds (calls k r a) =
-      let w = range-inv _ _ _ _ r in
+  by-kinds (calls k i l h a) =
       subst (λ (t : List ℕ). Holds s q t → q + length t ≤ length s → componentOf s q ≡ Answer.Read c (q + length t)) (by-invoke c (invokeText c) k refl)
-      (as-invoke k (w .0) (w .1) (w .2) a)
-  by-kinds (answers k r a) =
-      let w = range-inv _ _ _ _ r in
+      (as-invoke k i l h a)
+  by-kinds (answers k i l h a) =
       subst (λ (t : List ℕ). Holds s q t → q + length t ≤ length s → componentOf s q ≡ Answer.Read c (q + length t)) (by-result c (resultText c) (λ e. omega arith) k refl)
-      (as-result k (w .0) (w .1) (w .2) a)
-  by-kinds (fails k r p) =
-      let w = range-inv _ _ _ _ r in
+      (as-result k i l h a)
+  by-kinds (fails k i l h p) =
       subst (λ (t : List ℕ). Holds s q t → q + length t ≤ length s → componentOf s q ≡ Answer.Read c (q + length t)) (by-error c (errorText c) (λ e. omega arith) (λ e. omega arith) k refl)
-      (as-error k (w .0) (w .1) (w .2) p)
+      (as-error k i l h p)
   by-kinds (rejects k u n p) =
       subst (λ (t : List ℕ). Holds s q t → q + length t ≤ length s → componentOf s q ≡ Answer.Read c (q + length t))
       (by-reject c (rejectText c) (λ e. omega arith) (λ e. omega arith) (λ e. omega arith) refl) (as-reject k u n p)

@@ -11,7 +11,8 @@ use Rattle.wire.specs.Cursors.{stoppedOf, absentOf, openedOf, insideOf, 
 use Rattle.wire.specs.Values.{moduleBy, moduleAt, listedOf, listedAt, pairedOf, pairOn, pairsAt, countedOf, naturedOf, digitedOf, partyBy, partyOf, thereOf, clockOf, clockAt, secondsAt, problemTag}
 use Rattle.wire.specs.Grammar.{codeOf, flagPart, firstPart, partyAt, partyPart, partialOf, durationOf, lastOf, depthOf, knownOf, partsOf, numberIf, madeOf, bareOf, answerOf, invokeOf, resultOf, errorOf, namedOf, nameOf, rejectOf, kindOf, wholeOf, componentOf}
 use Rattle.wire.specs.Parameters.{refused, holds, before, onward, walkBy, walkOf, framedOf, heldIn, parameterOf}
-use Rattle.wire.specs.Texts.{elementText, textIf, octetsOf, paddedOf, numberText, flagText, partyText, durationText, firstText, partiesText, lastText, partsText, seqText, idText, rejectedText, codeText, invokeText, heldText, resultText, errorText, rejectText, componentText, partyOk, durationOk, argumentOk, resultOk, rangeOk, shapeBy, shapeOk, allOf, writableOf}
+use Rattle.wire.specs.Texts.{elementText, textIf, octetsOf, paddedOf, numberText, flagText, partyText, durationText, firstText, partiesText, lastText, partsText, seqText, idText, rejectedText, codeText, invokeText, heldText, resultText, errorText, rejectText, componentText}
+use Rattle.wire.specs.Writable.{rangeOk, bothOk, itemOk, argumentOk, resultOk, placesOk, unnamedOk, untimedOk, partsOk, numberOk, durationOk, idOk, fieldIf, fieldsOf, badFrom, badOf, writableOf}
 use Rattle.wire.specs.declared.Answer.{Answer}
 use Rattle.wire.specs.declared.Component.{Component}
 
@@ -74,7 +75,7 @@ written-worked :
     × (writableOf failure ≡ 1)
     × (componentText rejection ≡ rejectionBytes)
     × (writableOf rejection ≡ 1)
-unfolding ifLt ifEq ifSo elementText textIf octetsOf paddedOf numberText flagText partyText durationText firstText partiesText lastText partsText seqText idText rejectedText codeText invokeText heldText resultText errorText rejectText componentText partyOk durationOk argumentOk resultOk rangeOk shapeBy shapeOk allOf writableOf
+unfolding ifLt ifEq ifSo elementText textIf octetsOf paddedOf numberText flagText partyText durationText firstText partiesText lastText partsText seqText idText rejectedText codeText invokeText heldText resultText errorText rejectText componentText rangeOk bothOk itemOk argumentOk resultOk placesOk unnamedOk untimedOk partsOk numberOk durationOk idOk fieldIf fieldsOf badFrom badOf writableOf
 written-worked = (refl, refl, refl, refl, refl, refl, refl, refl)
 
 -- a parameter of two, of none, and others

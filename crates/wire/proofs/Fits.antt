@@ -13,7 +13,7 @@ use Rattle.wire.specs.Values.{absentNumber, listedOf, listedAt}
 use Rattle.wire.specs.Grammar.{any, codeOf, itemAt, numberIf, madeOf, bareOf, answerOf, invokeOf, resultOf, errorOf, nameOf, rejectOf}
 use Rattle.wire.specs.Grammar.{kindOf, wholeOf, componentOf}
 use Rattle.wire.specs.Parameters.{Parameter, refused, holds, before, onward, walkBy, walkOf}
-use Rattle.wire.specs.Texts.{argumentOk, resultOk, writableOf}
+use Rattle.wire.specs.Writable.{argumentOk, resultOk, writableOf}
 use Rattle.wire.specs.declared.Answer.{Answer}
 use Rattle.wire.specs.declared.Component.{Component}
 use Rattle.wire.specs.declared.Cursor.{Cursor}
@@ -21,7 +21,7 @@ use Rattle.wire.specs.declared.Head.{Head}
 use Rattle.wire.specs.declared.Number.{Number}
 use Rattle.wire.specs.declared.Said.{Said}
 use Rattle.wire.proofs.Digited.{Fine}
-use Rattle.wire.proofs.Goods.{Kinds, Sized, range-ok, good-written}
+use Rattle.wire.proofs.Goods.{Kinds, Sized, good-written}
 use Rattle.wire.proofs.Bounds.{need-took, checked-live, closed-live, inside-live}
 use Rattle.wire.proofs.Spent.{Bytes, Agrees, invoke-enough, result-enough, number-is}
 
@@ -211,9 +211,9 @@ fits-sized c f =
     }
 
 kinds-of : (k n p x : ℕ) → Shaped k n p → ((k ≡ 4 → ⊥) → x < 256) → x ≤ 256 → Kinds k n p x
-kinds-of k n p x (calls e l h a) f g = Kinds.calls e (range-ok x n 1 3 (f (λ z. omega arith)) l h) a
-kinds-of k n p x (answers e l h a) f g = Kinds.answers e (range-ok x n 1 3 (f (λ z. omega arith)) l h) a
-kinds-of k n p x (fails e l h a) f g = Kinds.fails e (range-ok x n 4 12 (f (λ z. omega arith)) l h) a
+kinds-of k n p x (calls e l h a) f g = Kinds.calls e (f (λ z. omega arith)) l h a
+kinds-of k n p x (answers e l h a) f g = Kinds.answers e (f (λ z. omega arith)) l h a
+kinds-of k n p x (fails e l h a) f g = Kinds.fails e (f (λ z. omega arith)) l h a
 kinds-of k n p x (rejects e l a) f g = Kinds.rejects e g l a
 
 pub fits-writable : (c : Component) → Fits c → Ranged c → writableOf c ≡ 1

@@ -1,18 +1,20 @@
 -- What can be written, taken apart and put together; and its lengths, of which none is 128 or more.
 -- Assumes nothing.
-use mathlib.Core.Path.{_≡_, refl, sym, ap, _∙_}
+use mathlib.Core.Path.{_≡_, refl, sym, ap, subst, _∙_}
 use mathlib.Core.List.{_++_}
 use Prim.Native.Nat.{ℕ, zero, suc, _+_, _*_, _/_, _%_, _≤_, _<_}
 use native.Mathlib.Omega.{arith}
 use lib.ListN.{length, length-append}
-use Rattle.text.specs.Choose.{ifEq, ifSo}
+use Rattle.text.specs.Choose.{ifLt, ifEq, ifSo}
 use Rattle.text.proofs.Cases.{yes-lt, no-lt, yes-eq, no-eq, both-lt, both-eq}
 use Rattle.wire.specs.Values.{absentNumber}
-use Rattle.wire.specs.Texts.{elementText, textIf, flagText, partyText, durationText, firstText, partiesText, lastText, partsText, partyOk, durationOk, argumentOk, resultOk, rangeOk, shapeBy, shapeOk, allOf, writableOf}
+use Rattle.wire.specs.Texts.{elementText, textIf, flagText, partyText, durationText, firstText, partiesText, lastText, partsText}
+use Rattle.wire.specs.Writable.{rangeOk, bothOk, itemOk, argumentOk, resultOk, placesOk, unnamedOk, untimedOk, partsOk, numberOk, durationOk, idOk, writableOf}
 use Rattle.wire.specs.declared.Component.{Component}
 use Rattle.wire.specs.declared.Number.{Number}
 use Rattle.wire.proofs.Pieces.{number-length}
 use Rattle.wire.proofs.Digited.{Fine, number-eq}
+use Rattle.wire.proofs.Fields.{written-tested, tested-written}
 
 -- the values go with the parts
 pub record Good (c : Component) : Type 0 where
@@ -25,12 +27,13 @@ pub record Good (c : Component) : Type 0 where
 
 -- ---- what can be written, taken apart
 
-pub range-inv : (x n low high : ℕ) → rangeOk x n low high ≡ 1 → (x < 256) × (low ≤ n) × (n ≤ high)
+most-inv : (m n : ℕ) → _≡_ {A = ℕ} (ifLt m n 0 1) 1 → n ≤ m
+most-inv m n = both-lt m n (λ (z : ℕ). z ≡ 1 → n ≤ m) 0 1 (λ _ e. absurd (omega arith)) (λ h _. h)
+
+pub range-inv : (n low high : ℕ) → rangeOk n low high ≡ 1 → (low ≤ n) × (n ≤ high)
 unfolding rangeOk
-range-inv x n low high =
-    both-lt _ _ (λ (z : ℕ). z ≡ 1 → (x < 256) × (low ≤ n) × (n ≤ high)) _ _ (λ _ e. absurd (omega arith)) λ h.
-    both-lt _ _ (λ (z : ℕ). z ≡ 1 → (x < 256) × (low ≤ n) × (n ≤ high)) _ _ (λ _ e. absurd (omega arith)) λ g.
-    both-lt _ _ (λ (z : ℕ). z ≡ 1 → (x < 256) × (low ≤ n) × (n ≤ high)) _ _ (λ _ e. absurd (omega arith)) λ k e. (omega arith, g, k)
+range-inv n low high =
+    both-lt _ _ (λ (z : ℕ). z ≡ 1 → (low ≤ n) × (n ≤ high)) _ _ (λ _ e. absurd (omega arith)) (λ g e. (g, most-inv high n e))
 
 pub mask-inv : (a b : ℕ) → _≡_ {A = ℕ} (ifEq a b 1 0) 1 → a ≡ b
 mask-inv a b = both-eq a b (λ (z : ℕ). z ≡ 1 → a ≡ b) 1 0 (λ h _. h) (λ _ e. absurd (omega arith))
@@ -47,59 +50,51 @@ result-inv Q x p e f g =
     both-lt (p / 2 % 2) (p / 4 % 2) (λ (z : ℕ). z ≡ 1 → Q) _ _ (λ _ k. absurd (omega arith))
     (λ o. both-eq x 3 (λ (z : ℕ). z ≡ 1 → Q) _ _ (λ h k. f h (mask-inv _ _ k) o) (λ h k. g h (mask-inv _ _ k) o)) e
 
-and-inv : (a b : ℕ) → ifEq a 1 b 0 ≡ 1 → (a ≡ 1) × (b ≡ 1)
-and-inv a b = both-eq a 1 (λ (z : ℕ). z ≡ 1 → (a ≡ 1) × (b ≡ 1)) b 0 (λ h k. (h, k)) (λ _ e. absurd (omega arith))
-
-all-inv : (a b c d : ℕ) → allOf a b c d ≡ 1 → (a ≡ 1) × (b ≡ 1) × (c ≡ 1) × (d ≡ 1)
-unfolding allOf
-all-inv a b c d e =
-    let x = and-inv a _ e in
-    let y = and-inv b _ (x .1) in
-    let z = and-inv c _ (y .1) in
-    (x .0, y .0, z .0, mask-inv d 1 (z .1))
+both-inv : (a b : ℕ) → bothOk a b ≡ 1 → (a ≡ 1) × (b ≡ 1)
+unfolding bothOk
+both-inv a b = both-eq a 1 (λ (z : ℕ). z ≡ 1 → (a ≡ 1) × (b ≡ 1)) b 0 (λ h k. (h, k)) (λ _ e. absurd (omega arith))
 
 -- a component of each kind
 pub data Kinds (k n p x : ℕ) : Type 0 where
-  calls : k ≡ 1 → rangeOk x n 1 3 ≡ 1 → argumentOk n p ≡ 1 → Kinds k n p x
-  answers : k ≡ 2 → rangeOk x n 1 3 ≡ 1 → resultOk n p ≡ 1 → Kinds k n p x
-  fails : k ≡ 3 → rangeOk x n 4 12 ≡ 1 → p ≡ 0 → Kinds k n p x
+  calls : k ≡ 1 → x < 256 → 1 ≤ n → n ≤ 3 → argumentOk n p ≡ 1 → Kinds k n p x
+  answers : k ≡ 2 → x < 256 → 1 ≤ n → n ≤ 3 → resultOk n p ≡ 1 → Kinds k n p x
+  fails : k ≡ 3 → x < 256 → 4 ≤ n → n ≤ 12 → p ≡ 0 → Kinds k n p x
   rejects : k ≡ 4 → x ≤ 256 → n ≡ 0 → p ≡ 0 → Kinds k n p x
 
-shape-inv : (k n p x : ℕ) → shapeOk k n p x ≡ 1 → Kinds k n p x
-unfolding shapeOk shapeBy
-shape-inv k n p x =
-    both-eq k 1 (λ (z : ℕ). z ≡ 1 → Kinds k n p x) _ _ (λ h e. let w = and-inv _ _ e in calls h (w .0) (w .1)) λ _.
-    both-eq k 2 (λ (z : ℕ). z ≡ 1 → Kinds k n p x) _ _ (λ h e. let w = and-inv _ _ e in answers h (w .0) (w .1)) λ _.
-    both-eq k 3 (λ (z : ℕ). z ≡ 1 → Kinds k n p x) _ _ (λ h e. let w = and-inv _ _ e in fails h (w .0) (mask-inv _ _ (w .1))) λ _.
-    both-eq k 4 (λ (z : ℕ). z ≡ 1 → Kinds k n p x) _ _
-    (λ h. both-lt 256 x (λ (z : ℕ). z ≡ 1 → Kinds k n p x) _ _ (λ _ e. absurd (omega arith))
-    λ g. both-eq n 0 (λ (z : ℕ). z ≡ 1 → Kinds k n p x) _ _ (λ f e. rejects h g f (mask-inv _ _ e)) (λ _ e. absurd (omega arith)))
-    (λ _ e. absurd (omega arith))
+kinds-inv : (k n p x : ℕ) → rangeOk k 1 4 ≡ 1 → itemOk k n ≡ 1 → placesOk k n p ≡ 1 → idOk k x ≡ 1 → Kinds k n p x
+unfolding itemOk placesOk idOk ifEq ifSo
+kinds-inv zero n p x a b d e = let h = range-inv 0 1 4 a in absurd (omega arith)
+kinds-inv (suc zero) n p x a b d e = let r = range-inv n 1 3 b in let h = most-inv 255 x e in calls refl (omega arith) (r .0) (r .1) d
+kinds-inv (suc (suc zero)) n p x a b d e = let r = range-inv n 1 3 b in let h = most-inv 255 x e in answers refl (omega arith) (r .0) (r .1) d
+kinds-inv (suc (suc (suc zero))) n p x a b d e =
+    let r = range-inv n 4 12 b in
+    let h = most-inv 255 x e in
+    fails refl (omega arith) (r .0) (r .1) (mask-inv p 0 d)
+kinds-inv (suc (suc (suc (suc zero)))) n p x a b d e = let r = range-inv n 0 0 b in rejects refl (most-inv 256 x e) (omega arith) (mask-inv p 0 d)
+kinds-inv (suc (suc (suc (suc (suc k))))) n p x a b d e = let h = range-inv (suc (suc (suc (suc (suc k))))) 1 4 a in absurd (omega arith)
 
-party-fine : (b : ℕ) (n : Number) → n .count < 256 → partyOk b n ≡ 1 → b ≡ 1 → Fine n
-unfolding partyOk
-party-fine b n l e h =
+number-fine : (n : Number) → n .count < 256 → numberOk n ≡ 1 → Fine n
+unfolding numberOk
+number-fine n l =
     both-lt _ _ (λ (z : ℕ). z ≡ 1 → Fine n) _ _ (λ _ k. absurd (omega arith))
     (λ g. both-lt _ _ (λ (z : ℕ). z ≡ 1 → Fine n) _ _ (λ _ k. absurd (omega arith))
     (λ o. both-lt _ _ (λ (z : ℕ). z ≡ 1 → Fine n) 1 0 (λ f k. record { byte = l; some = g; most = o; fits = f }) (λ _ k. absurd (omega arith))))
-    (yes-eq b 1 _ _ _ h refl ∙ e)
 
-party-none : (b : ℕ) (n : Number) → partyOk b n ≡ 1 → b ≡ 0 → n ≡ absentNumber
-unfolding partyOk
-party-none b n e h =
+unnamed-none : (b : ℕ) (n : Number) → unnamedOk b n ≡ 1 → b ≡ 0 → n ≡ absentNumber
+unfolding unnamedOk
+unnamed-none b n e h =
     both-eq (n .count) 0 (λ (z : ℕ). z ≡ 1 → n ≡ absentNumber) _ _ (λ f k. number-eq n 0 0 f (mask-inv _ _ k)) (λ _ k. absurd (omega arith))
     (no-eq b 1 _ _ _ (λ f. omega arith) refl ∙ e)
 
-duration-most : (b t : ℕ) → durationOk b t ≡ 1 → t ≤ 921599
-unfolding durationOk
-duration-most b t =
-    both-eq b 1 (λ (z : ℕ). z ≡ 1 → t ≤ 921599) _ _
-    (λ _. both-lt 921599 t (λ (z : ℕ). z ≡ 1 → t ≤ 921599) 0 1 (λ _ e. absurd (omega arith)) (λ g _. g))
-    (λ _ e. let w = mask-inv t 0 e in omega arith)
+untimed-none : (b t : ℕ) → untimedOk b t ≡ 1 → b ≡ 0 → t ≡ 0
+unfolding untimedOk
+untimed-none b t e h = mask-inv t 0 (no-eq b 1 _ _ _ (λ f. omega arith) refl ∙ e)
 
-duration-none : (b t : ℕ) → durationOk b t ≡ 1 → b ≡ 0 → t ≡ 0
+duration-most : (b t : ℕ) → b < 2 → untimedOk b t ≡ 1 → (b ≡ 1 → durationOk t ≡ 1) → t ≤ 921599
 unfolding durationOk
-duration-none b t e h = mask-inv t 0 (no-eq b 1 _ _ _ (λ f. omega arith) refl ∙ e)
+duration-most zero t h u f = let e = untimed-none 0 t u refl in omega arith
+duration-most (suc zero) t h u f = most-inv 921599 t (f refl)
+duration-most (suc (suc b)) t h u f = absurd (omega arith)
 
 -- the counts are bytes
 pub record Sized (c : Component) : Type 0 where
@@ -107,67 +102,103 @@ pub record Sized (c : Component) : Type 0 where
   pub called-byte : c .called .count < 256
 
 pub written-good : (c : Component) → Sized c → writableOf c ≡ 1 → Good c × Kinds (c .kind) (c .item) (c .parts) (c .id)
-unfolding writableOf
+unfolding partsOk
 written-good c z e =
-    let w = all-inv _ _ _ _ e in
-    let a = w .1 in
-    let b = w .2 in
-    let d = w .3 in (
+    let r = written-tested c e in
+    let p = both-inv _ _ (r .parts) in
+    let a = both-inv _ _ (p .1) in
+    let b = both-inv _ _ (a .1) in (
       record {
-        calling-fine = party-fine _ _ (z .calling-byte) a;
-        calling-none = party-none _ _ a;
-        called-fine = party-fine _ _ (z .called-byte) b;
-        called-none = party-none _ _ b;
-        duration-most = duration-most _ _ d;
-        duration-none = duration-none _ _ d;
+        calling-fine = λ h. number-fine _ (z .calling-byte) (r .calling h);
+        calling-none = unnamed-none _ _ (a .0);
+        called-fine = λ h. number-fine _ (z .called-byte) (r .called h);
+        called-none = unnamed-none _ _ (b .0);
+        duration-most = duration-most (c .parts / 64 % 2) (c .duration) (omega arith) (b .1) (r .duration);
+        duration-none = untimed-none _ _ (b .1);
       },
-      shape-inv _ _ _ _ (w .0),
+      kinds-inv _ _ _ _ (r .kind) (r .item) (p .0) (r .id),
     )
 
 -- ---- and put together
 
-pub range-ok : (x n low high : ℕ) → x < 256 → low ≤ n → n ≤ high → rangeOk x n low high ≡ 1
+range-ok : (n low high : ℕ) → low ≤ n → n ≤ high → rangeOk n low high ≡ 1
 unfolding rangeOk
-range-ok x n low high h g k = sym (no-lt _ _ _ _ _ (omega arith) (no-lt _ _ _ _ _ g (no-lt _ _ _ _ _ k refl)))
+range-ok n low high g k = sym (no-lt _ _ _ _ _ g (no-lt _ _ _ _ _ k refl))
 
-shape-ok : (k n p x : ℕ) → Kinds k n p x → shapeOk k n p x ≡ 1
-unfolding shapeOk shapeBy
-shape-ok k n p x (calls e r a) = sym (yes-eq k 1 _ _ _ e (yes-eq _ _ _ _ _ r (sym a)))
-shape-ok k n p x (answers e r a) = sym (no-eq k 1 _ _ _ (λ z. omega arith) (yes-eq k 2 _ _ _ e (yes-eq _ _ _ _ _ r (sym a))))
-shape-ok k n p x (fails e r a) =
-    sym (no-eq k 1 _ _ _ (λ z. omega arith)
-    (no-eq k 2 _ _ _ (λ z. omega arith)
-    (yes-eq k 3 _ _ _ e (yes-eq _ _ _ _ _ r (yes-eq _ _ _ _ _ a refl)))))
-shape-ok k n p x (rejects e h l a) =
-    sym (no-eq k 1 _ _ _ (λ z. omega arith)
-    (no-eq k 2 _ _ _ (λ z. omega arith)
-    (no-eq k 3 _ _ _ (λ z. omega arith)
-    (yes-eq k 4 _ _ _ e (no-lt _ _ _ _ _ h (yes-eq _ _ _ _ _ l (yes-eq _ _ _ _ _ a refl)))))))
+both-ok : (a b : ℕ) → a ≡ 1 → b ≡ 1 → bothOk a b ≡ 1
+unfolding bothOk
+both-ok a b h k = sym (yes-eq a 1 1 b 0 h (sym k))
 
-party-ok : (b : ℕ) (n : Number) → b < 2 → (b ≡ 1 → Fine n) → (b ≡ 0 → n ≡ absentNumber) → partyOk b n ≡ 1
-unfolding partyOk
-party-ok zero n h f g =
+mask-ok : (a b : ℕ) → a ≡ b → _≡_ {A = ℕ} (ifEq a b 1 0) 1
+mask-ok a b h = sym (yes-eq a b 1 1 0 h refl)
+
+most-ok : (m n : ℕ) → n ≤ m → _≡_ {A = ℕ} (ifLt m n 0 1) 1
+most-ok m n h = sym (no-lt m n 1 0 1 h refl)
+
+-- the tests of a component of each kind
+record Kinded (k n p x : ℕ) : Type 0 where
+  kind : rangeOk k 1 4 ≡ 1
+  item : itemOk k n ≡ 1
+  places : placesOk k n p ≡ 1
+  id : idOk k x ≡ 1
+
+kinds-ok : (k n p x : ℕ) → Kinds k n p x → Kinded k n p x
+unfolding itemOk placesOk idOk ifEq ifSo
+kinds-ok k n p x (calls e h l m a) =
+    subst (λ (y : ℕ). Kinded y n p x) (sym e)
+    (record { kind = range-ok 1 1 4 (omega arith) (omega arith); item = range-ok n 1 3 l m; places = a; id = most-ok 255 x (omega arith) })
+kinds-ok k n p x (answers e h l m a) =
+    subst (λ (y : ℕ). Kinded y n p x) (sym e)
+    (record { kind = range-ok 2 1 4 (omega arith) (omega arith); item = range-ok n 1 3 l m; places = a; id = most-ok 255 x (omega arith) })
+kinds-ok k n p x (fails e h l m a) =
+    subst (λ (y : ℕ). Kinded y n p x) (sym e)
+    (record { kind = range-ok 3 1 4 (omega arith) (omega arith); item = range-ok n 4 12 l m; places = mask-ok p 0 a; id = most-ok 255 x (omega arith) })
+kinds-ok k n p x (rejects e h l a) =
+    subst (λ (y : ℕ). Kinded y n p x) (sym e)
+    (record {
+      kind = range-ok 4 1 4 (omega arith) (omega arith);
+      item = range-ok n 0 0 (omega arith) (omega arith);
+      places = mask-ok p 0 a;
+      id = most-ok 256 x h;
+    })
+
+number-ok : (n : Number) → Fine n → numberOk n ≡ 1
+unfolding numberOk
+number-ok n w = sym (no-lt _ _ _ _ _ (w .some) (no-lt _ _ _ _ _ (w .most) (yes-lt _ _ _ _ _ (w .fits) refl)))
+
+unnamed-ok : (b : ℕ) (n : Number) → b < 2 → (b ≡ 0 → n ≡ absentNumber) → unnamedOk b n ≡ 1
+unfolding unnamedOk
+unnamed-ok zero n h g =
     let e = g refl in
     sym (no-eq _ _ _ _ _ (λ z. omega arith)
     (yes-eq _ _ _ _ _ (ap (λ (y : Number). y .count) e) (yes-eq _ _ _ _ _ (ap (λ (y : Number). y .value) e) refl)))
-party-ok (suc zero) n h f g =
-    let w = f refl in
-    sym (yes-eq _ _ _ _ _ refl (no-lt _ _ _ _ _ (w .some) (no-lt _ _ _ _ _ (w .most) (yes-lt _ _ _ _ _ (w .fits) refl))))
-party-ok (suc (suc b)) n h f g = absurd (omega arith)
+unnamed-ok (suc zero) n h g = sym (yes-eq _ _ _ _ _ refl refl)
+unnamed-ok (suc (suc b)) n h g = absurd (omega arith)
 
-duration-ok : (b t : ℕ) → b < 2 → t ≤ 921599 → (b ≡ 0 → t ≡ 0) → durationOk b t ≡ 1
-unfolding durationOk
-duration-ok zero t h l g = sym (no-eq _ _ _ _ _ (λ z. omega arith) (yes-eq _ _ _ _ _ (g refl) refl))
-duration-ok (suc zero) t h l g = sym (yes-eq _ _ _ _ _ refl (no-lt _ _ _ _ _ l refl))
-duration-ok (suc (suc b)) t h l g = absurd (omega arith)
+untimed-ok : (b t : ℕ) → b < 2 → (b ≡ 0 → t ≡ 0) → untimedOk b t ≡ 1
+unfolding untimedOk
+untimed-ok zero t h g = sym (no-eq _ _ _ _ _ (λ z. omega arith) (yes-eq _ _ _ _ _ (g refl) refl))
+untimed-ok (suc zero) t h g = sym (yes-eq _ _ _ _ _ refl refl)
+untimed-ok (suc (suc b)) t h g = absurd (omega arith)
 
 pub good-written : (c : Component) → Good c → Kinds (c .kind) (c .item) (c .parts) (c .id) → writableOf c ≡ 1
-unfolding writableOf allOf
+unfolding partsOk durationOk
 good-written c g k =
-    sym (yes-eq _ _ _ _ _ (shape-ok _ _ _ _ k)
-    (yes-eq _ _ _ _ _ (party-ok (c .parts / 16 % 2) (c .calling) (omega arith) (g .calling-fine) (g .calling-none))
-    (yes-eq _ _ _ _ _ (party-ok (c .parts / 32 % 2) (c .called) (omega arith) (g .called-fine) (g .called-none))
-    (yes-eq _ _ _ _ _ (duration-ok (c .parts / 64 % 2) (c .duration) (omega arith) (g .duration-most) (g .duration-none)) refl))))
+    let w = kinds-ok _ _ _ _ k in
+    tested-written c
+    (record {
+      kind = w .kind;
+      item = w .item;
+      parts =
+          both-ok _ _ (w .places)
+          (both-ok _ _ (unnamed-ok (c .parts / 16 % 2) (c .calling) (omega arith) (g .calling-none))
+          (both-ok _ _ (unnamed-ok (c .parts / 32 % 2) (c .called) (omega arith) (g .called-none))
+          (untimed-ok (c .parts / 64 % 2) (c .duration) (omega arith) (g .duration-none))));
+      calling = λ h. number-ok _ (g .calling-fine h);
+      called = λ h. number-ok _ (g .called-fine h);
+      duration = λ _. most-ok 921599 (c .duration) (g .duration-most);
+      id = w .id;
+    })
 
 -- ---- lengths: none is 128 or more
 

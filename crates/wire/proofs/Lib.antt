@@ -6,6 +6,7 @@ pub mod Contracts
 pub mod Cuts
 pub mod Digited
 mod Examples
+pub mod Fields
 pub mod Fits
 pub mod Forms
 pub mod Goods

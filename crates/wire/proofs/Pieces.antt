@@ -12,7 +12,8 @@ use Rattle.text.specs.Choose.{ifEq}
 use Rattle.text.specs.Text.{Put}
 use Rattle.text.proofs.Cases.{yes-lt, no-lt, yes-eq, no-eq, both-eq}
 use Rattle.text.proofs.Laws.{put-none, put-before, put-after, put-as}
-use Rattle.wire.specs.Texts.{elementText, textIf, pairByte, octetsOf, paddedOf, numberText, flagText, partyText, durationText, firstText, partiesText, lastText, partsText, seqText, idText, rejectedText, codeText, invokeText, heldText, resultText, errorText, rejectText, componentText, parameterText, partyOk, writtenOf, leavesOf}
+use Rattle.wire.specs.Texts.{elementText, textIf, pairByte, octetsOf, paddedOf, numberText, flagText, partyText, durationText, firstText, partiesText, lastText, partsText, seqText, idText, rejectedText, codeText, invokeText, heldText, resultText, errorText, rejectText, componentText, parameterText, writtenOf, leavesOf}
+use Rattle.wire.specs.Writable.{numberOk}
 use Rattle.wire.specs.declared.Component.{Component}
 use Rattle.wire.specs.declared.Number.{Number}
 use Rattle.wire.specs.declared.Written.{Written}
@@ -277,27 +278,27 @@ pub ten-done : (j k t : ℕ) → t ≡ 10 ^ j → j ≡ k → t ≡ 10 ^ k
 ten-done j k t e f = e ∙ rw f
 
 module _ (b : ℕ) (n : Number) (t : ℕ) (h : b ≡ 1) (g : 1 ≤ n .count % 128) (k : n .count % 128 ≤ 15) (e : t ≡ 10 ^ (n .count % 128)) where
-  pub party-fits : n .value < t → 1 ≡ partyOk b n
-  unfolding partyOk
-  party-fits l = yes-eq _ _ _ _ _ h (no-lt _ _ _ _ _ g (no-lt _ _ _ _ _ k (yes-lt _ _ _ _ _ (omega arith) refl)))
+  pub number-fits : n .value < t → 1 ≡ ifEq b 1 (numberOk n) 1
+  unfolding numberOk
+  number-fits l = yes-eq _ _ _ _ _ h (no-lt _ _ _ _ _ g (no-lt _ _ _ _ _ k (yes-lt _ _ _ _ _ (omega arith) refl)))
 
-  pub party-over : t ≤ n .value → 0 ≡ partyOk b n
-  unfolding partyOk
-  party-over l = yes-eq _ _ _ _ _ h (no-lt _ _ _ _ _ g (no-lt _ _ _ _ _ k (no-lt _ _ _ _ _ (omega arith) refl)))
+  pub number-over : t ≤ n .value → 0 ≡ ifEq b 1 (numberOk n) 1
+  unfolding numberOk
+  number-over l = yes-eq _ _ _ _ _ h (no-lt _ _ _ _ _ g (no-lt _ _ _ _ _ k (no-lt _ _ _ _ _ (omega arith) refl)))
 
--- ---- what is answered and left, of a text that can be written where w is 1
+-- ---- what is answered and left, of a text that can be written where w is 0
 
-module _ (ok : ℕ) (t out : List ℕ) (w : ℕ) (e : w ≡ ok) where
-  pub write-not : (w ≡ 1 → ⊥) → (Written.Refused 3 ≡ writtenOf ok t out) × (out ≡ leavesOf ok t out)
+module _ (bad : ℕ) (t out : List ℕ) (w : ℕ) (e : w ≡ bad) where
+  pub write-not : (w ≡ 0 → ⊥) → (Written.Refused 3 w ≡ writtenOf bad t out) × (out ≡ leavesOf bad t out)
   unfolding writtenOf leavesOf
-  write-not h = (no-eq _ _ _ _ _ (λ f. h (e ∙ f)) refl, no-eq _ _ _ _ _ (λ f. h (e ∙ f)) refl)
+  write-not h = (no-eq _ _ _ _ _ (λ f. h (e ∙ f)) (ap (Written.Refused 3) e), no-eq _ _ _ _ _ (λ f. h (e ∙ f)) refl)
 
-  module _ (n : ℕ) (h : w ≡ 1) (f : n ≡ length t) where
-    pub write-full : length out < n → (Written.Refused 8 ≡ writtenOf ok t out) × (out ≡ leavesOf ok t out)
+  module _ (n : ℕ) (h : w ≡ 0) (f : n ≡ length t) where
+    pub write-full : length out < n → (Written.Refused 8 0 ≡ writtenOf bad t out) × (out ≡ leavesOf bad t out)
     unfolding writtenOf leavesOf
     write-full g = (yes-eq _ _ _ _ _ (sym e ∙ h) (yes-lt _ _ _ _ _ (omega arith) refl), yes-eq _ _ _ _ _ (sym e ∙ h) (yes-lt _ _ _ _ _ (omega arith) refl))
 
-    pub write-fits : (new : List ℕ) (r : ℕ) → n ≤ length out → Put out 0 t new r → (Written.Done n ≡ writtenOf ok t out) × (new ≡ leavesOf ok t out)
+    pub write-fits : (new : List ℕ) (r : ℕ) → n ≤ length out → Put out 0 t new r → (Written.Done n ≡ writtenOf bad t out) × (new ≡ leavesOf bad t out)
     unfolding writtenOf leavesOf
     write-fits new r g p = (
       yes-eq _ _ _ _ _ (sym e ∙ h) (no-lt _ _ _ _ _ (omega arith) (rw f)),

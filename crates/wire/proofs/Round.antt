@@ -11,7 +11,8 @@ use Rattle.wire.specs.Bytes.{byteAt}
 use Rattle.wire.specs.Cursors.{absentOf, openedOf, insideOf, mayOf, needOf, closedOf, checkedOf}
 use Rattle.wire.specs.Values.{moduleBy, moduleAt, listedOf, listedAt, absentNumber, problemTag}
 use Rattle.wire.specs.Grammar.{any, codeOf, itemAt, partsOf, numberIf, madeOf, bareOf, answerOf, invokeOf, resultOf, errorOf, namedOf, nameOf, rejectOf}
-use Rattle.wire.specs.Texts.{elementText, partsText, seqText, idText, codeText, heldText, argumentOk, resultOk}
+use Rattle.wire.specs.Texts.{elementText, partsText, seqText, idText, codeText, heldText}
+use Rattle.wire.specs.Writable.{argumentOk, resultOk}
 use Rattle.wire.specs.declared.Answer.{Answer}
 use Rattle.wire.specs.declared.Component.{Component}
 use Rattle.wire.specs.declared.Cursor.{Cursor}

@@ -12,7 +12,8 @@ use Rattle.wire.specs.Bytes.{byteAt}
 use Rattle.wire.specs.Cursors.{mayOf, checkedOf}
 use Rattle.wire.specs.Values.{pairedOf, pairOn, pairsAt, absentNumber, countedOf, naturedOf, digitedOf, partyBy, partyOf, thereOf, clockOf, clockAt, secondsAt}
 use Rattle.wire.specs.Grammar.{flagPart, firstPart, partyAt, partyPart, partialOf, durationOf, lastOf, depthOf, knownOf, partsOf, numberIf, madeOf}
-use Rattle.wire.specs.Texts.{argumentOk, resultOk, elementText, textIf, numberText, flagText, partyText, durationText, firstText, partiesText, lastText, partsText}
+use Rattle.wire.specs.Texts.{elementText, textIf, numberText, flagText, partyText, durationText, firstText, partiesText, lastText, partsText}
+use Rattle.wire.specs.Writable.{argumentOk, resultOk}
 use Rattle.wire.specs.declared.Component.{Component}
 use Rattle.wire.specs.declared.Cursor.{Cursor}
 use Rattle.wire.specs.declared.Digits.{Digits}

@@ -1,26 +1,30 @@
 -- What is promised of the wire, each theorem to be read alone.
 -- Assumes nothing.
+use mathlib.Core.Logic.{_↔_}
 use mathlib.Core.Path.{_≡_, refl, sym, ap, subst, _∙_}
 use mathlib.Core.List.{List, [], _∷_, _++_, append-assoc}
-use Prim.Native.Nat.{ℕ, zero, suc, _+_, _≤_, _<_}
+use Prim.Native.Nat.{ℕ, zero, suc, _+_, _-_, _≤_, _<_}
 use native.Mathlib.Omega.{arith}
-use lib.ListN.{length, take, length-append, List·getD-append}
+use lib.ListN.{length, getD, take, length-append, List·getD-append}
 use lib.Seq.{length-take-le, getD-take, getD-append-add, take-at}
 use Rattle.wire.specs.Bytes.{byteAt}
 use Rattle.wire.specs.Heads.{headOf}
 use Rattle.wire.specs.Elements.{sequenceOf}
 use Rattle.wire.specs.Grammar.{kindOf, wholeOf, componentOf}
-use Rattle.text.proofs.Cases.{yes-lt, no-lt, both-lt, both-eq}
+use Rattle.text.proofs.Cases.{yes-lt, no-lt, yes-eq, no-eq, both-lt, both-eq}
 use Rattle.wire.specs.Parameters.{Parameter, refused, holds, before, onward, walkOf, framedOf, heldIn, parameterOf}
-use Rattle.wire.specs.Texts.{componentText, parameterText, writableOf}
+use Rattle.wire.specs.Texts.{componentText, parameterText, writtenOf, leavesOf}
+use Rattle.wire.specs.Writable.{fieldsOf, badOf, writableOf}
 use Rattle.wire.specs.declared.Answer.{Answer}
 use Rattle.wire.specs.declared.Component.{Component}
 use Rattle.wire.specs.declared.Frame.{Frame}
 use Rattle.wire.specs.declared.Head.{Head}
 use Rattle.wire.specs.declared.Seen.{Seen}
+use Rattle.wire.specs.declared.Written.{Written}
 use Rattle.wire.proofs.Again.{read-back, frame-said, parameter-back}
 use Rattle.wire.proofs.Back.{Holds}
 use Rattle.wire.proofs.Cuts.{Again, Alike, alike-take, Less, head-again, head-less}
+use Rattle.wire.proofs.Fields.{first-at, first-is, none-bad, all-good, writable-none, none-writable}
 use Rattle.wire.proofs.Fits.{read-writable}
 use Rattle.wire.proofs.Goods.{Sized}
 use Rattle.wire.proofs.Listed.{Listed, read-listed}
@@ -191,3 +195,73 @@ shortest-says-the-same s at next c front rest b e = let w = read-writable s at n
 -- No operation and no error is read that the module does not list, whatever the bytes.
 pub read-is-listed : (s : List ℕ) (at next : ℕ) (c : Component) → componentOf s at ≡ Answer.Read c next → Listed (c .kind) (c .item)
 read-is-listed s at next c e = read-listed s at next c e
+
+-- ---- what cannot be written, and the field that is told
+
+-- The field of c with the ordinal k, from 1 on, is in range: its test in the list of them (Writable.antt, `fieldsOf`) is 1. Past the last
+-- there is nothing that could be out of range.
+abbrev pub InRange : Component → ℕ → Type 0
+InRange c k = getD (fieldsOf c) (k - 1) 1 ≡ 1
+
+-- 02 #106: "Where 3 is told, give the field's ordinal in the body as well, first bad field first": it is k exactly where field k is out of
+-- range and every field before it is in range.
+pub told-is-first-bad : (c : Component) (k : ℕ) → 1 ≤ k → (badOf c ≡ k) ↔ ((InRange c k → ⊥) × ((j : ℕ) → 1 ≤ j → j < k → InRange c j))
+unfolding badOf
+told-is-first-bad c k l = (
+  λ e. let w = first-at 1 (k - 1) (fieldsOf c) (omega arith) (e ∙ omega arith) in (w .0, λ j m h. w .1 (j - 1) (omega arith)),
+  λ w. first-is 1 (k - 1) (fieldsOf c) (w .0)
+      (λ i h. let e : 1 + i - 1 ≡ i = omega arith in subst (λ (z : ℕ). getD (fieldsOf c) z 1 ≡ 1) e (w .1 (1 + i) (omega arith) (omega arith)))
+      ∙ omega arith,
+)
+
+-- It is 0 exactly where every field is in range.
+pub none-told : (c : Component) → (badOf c ≡ 0) ↔ ((k : ℕ) → 1 ≤ k → InRange c k)
+unfolding badOf
+none-told c = (
+  λ e k l. none-bad 1 (fieldsOf c) (omega arith) e (k - 1),
+  λ f. all-good 1 (fieldsOf c) (λ j. let e : 1 + j - 1 ≡ j = omega arith in subst (λ (z : ℕ). getD (fieldsOf c) z 1 ≡ 1) e (f (1 + j) (omega arith))),
+)
+
+-- And that is where the component can be written.
+pub none-told-is-writable : (c : Component) → (badOf c ≡ 0) ↔ (writableOf c ≡ 1)
+none-told-is-writable c = (none-writable c, writable-none c)
+
+abbrev numberIn : Written → ℕ
+numberIn (Written.Done n) = 0
+numberIn (Written.Refused n k) = n
+
+abbrev fieldIn : Written → ℕ
+fieldIn (Written.Done n) = 0
+fieldIn (Written.Refused n k) = k
+
+-- 3 is given exactly where it cannot be written, with that ordinal, whatever its text and the room.
+pub refused-with-its-field : (c : Component) (t out : List ℕ) (k : ℕ) → (writtenOf (badOf c) t out ≡ Written.Refused 3 k) ↔ ((writableOf c ≡ 1 → ⊥) × (badOf c ≡ k))
+unfolding writtenOf
+refused-with-its-field c t out k = (
+  both-eq (badOf c) 0 (λ (w : Written). w ≡ Written.Refused 3 k → (writableOf c ≡ 1 → ⊥) × (badOf c ≡ k)) _ _
+      (λ _. both-lt _ _ (λ (w : Written). w ≡ Written.Refused 3 k → (writableOf c ≡ 1 → ⊥) × (badOf c ≡ k)) _ _
+      (λ _ e. let z : _≡_ {A = ℕ} 8 3 = ap numberIn e in absurd (omega arith))
+      (λ _ e. let z : _≡_ {A = ℕ} 0 3 = ap numberIn e in absurd (omega arith)))
+      (λ h e. (λ w. h (writable-none c w), ap fieldIn e)),
+  λ w. sym (no-eq (badOf c) 0 _ _ _ (λ e. w .0 (none-writable c e)) (ap (Written.Refused 3) (sym (w .1)))),
+)
+
+-- The one other refusal is 8, where there is too little room, with the ordinal 0.
+pub refused-for-room : (c : Component) (t out : List ℕ) (n k : ℕ) → writtenOf (badOf c) t out ≡ Written.Refused n k → (n ≡ 3 → ⊥) → (n ≡ 8) × (k ≡ 0) × (length out < length t)
+unfolding writtenOf
+refused-for-room c t out n k =
+    both-eq (badOf c) 0 (λ (w : Written). w ≡ Written.Refused n k → (n ≡ 3 → ⊥) → (n ≡ 8) × (k ≡ 0) × (length out < length t)) _ _
+    (λ _. both-lt _ _ (λ (w : Written). w ≡ Written.Refused n k → (n ≡ 3 → ⊥) → (n ≡ 8) × (k ≡ 0) × (length out < length t)) _ _
+    (λ h e f. (sym (ap numberIn e), sym (ap fieldIn e), h))
+    (λ _ e f. let z : _≡_ {A = ℕ} 0 1 = cc in absurd (omega arith)))
+    (λ _ e f. absurd (f (sym (ap numberIn e))))
+
+-- Whatever is refused, the buffer is left as it was.
+pub refused-stores-nothing : (c : Component) (t out : List ℕ) (n k : ℕ) → writtenOf (badOf c) t out ≡ Written.Refused n k → leavesOf (badOf c) t out ≡ out
+unfolding writtenOf leavesOf
+refused-stores-nothing c t out n k =
+    both-eq (badOf c) 0 (λ (l : List ℕ). writtenOf (badOf c) t out ≡ Written.Refused n k → l ≡ out) _ _
+    (λ h. both-lt _ _ (λ (l : List ℕ). writtenOf (badOf c) t out ≡ Written.Refused n k → l ≡ out) _ _ (λ _ _. refl)
+    (λ g e. let d : Written.Done (length t) ≡ writtenOf (badOf c) t out = yes-eq _ _ _ _ _ h (no-lt _ _ _ _ _ g refl) in
+    let z : _≡_ {A = ℕ} 0 1 = cc in absurd (omega arith)))
+    (λ _ _. refl)

@@ -12,7 +12,8 @@ use Rattle.wire.specs.Cursors.{stoppedOf, absentOf, openedOf, insideOf, 
 use Rattle.wire.specs.Values.{moduleBy, moduleAt, listedOf, listedAt, pairedOf, pairOn, pairsAt, absentNumber, countedOf, naturedOf, digitedOf, partyBy, partyOf, thereOf, clockOf, clockAt, secondsAt, problemTag}
 use Rattle.wire.specs.Grammar.{codeOf, flagPart, firstPart, partyAt, partyPart, partialOf, durationOf, lastOf, depthOf, knownOf, partsOf, numberIf, madeOf, bareOf, answerOf, invokeOf, resultOf, errorOf, namedOf, nameOf, rejectOf, kindOf, wholeOf, componentOf}
 use Rattle.wire.specs.Parameters.{refused, holds, before, onward, walkBy, walkOf, framedOf, heldIn, parameterOf}
-use Rattle.wire.specs.Texts.{elementText, textIf, octetsOf, paddedOf, numberText, flagText, partyText, durationText, firstText, partiesText, lastText, partsText, seqText, idText, rejectedText, codeText, invokeText, heldText, resultText, errorText, rejectText, componentText, partyOk, durationOk, argumentOk, resultOk, rangeOk, shapeBy, shapeOk, allOf, writableOf, writtenOf, leavesOf}
+use Rattle.wire.specs.Texts.{elementText, textIf, octetsOf, paddedOf, numberText, flagText, partyText, durationText, firstText, partiesText, lastText, partsText, seqText, idText, rejectedText, codeText, invokeText, heldText, resultText, errorText, rejectText, componentText, writtenOf, leavesOf}
+use Rattle.wire.specs.Writable.{rangeOk, bothOk, itemOk, argumentOk, resultOk, placesOk, unnamedOk, untimedOk, partsOk, numberOk, durationOk, idOk, fieldIf, fieldsOf, badFrom, badOf}
 use Rattle.wire.specs.declared.Answer.the-variants.{Refused, Read}
 use Rattle.wire.specs.declared.Component.{Component}
 use Rattle.wire.specs.declared.Number.{Number}
@@ -158,15 +159,37 @@ texts : (componentText (component 1 3 41 absentNumber (number 7 5550123) 0 3) �
 unfolding componentText invokeText resultText heldText errorText rejectText rejectedText idText codeText seqText partsText firstText partiesText lastText flagText partyText durationText numberText paddedOf octetsOf elementText textIf ifLt ifLe ifEq ifSo
 texts = (refl, refl, refl, refl)
 
--- just room enough, a byte more, which stays, a byte less: 8, and nothing is written. 3 before 8: error 13, a Duration too long, part 4 alone
-written : (writtenOf (writableOf (component 4 0 0 absentNumber absentNumber 0 256)) (componentText (component 4 0 0 absentNumber absentNumber 0 256)) (9 ∷ 9 ∷ 9 ∷ 9 ∷ 9 ∷ 9 ∷ 9 ∷ []) ≡ Written.Done 7)
-    × (leavesOf (writableOf (component 4 0 0 absentNumber absentNumber 0 256)) (componentText (component 4 0 0 absentNumber absentNumber 0 256)) (9 ∷ 9 ∷ 9 ∷ 9 ∷ 9 ∷ 9 ∷ 9 ∷ 9 ∷ []) ≡ 164 ∷ 5 ∷ 5 ∷ 0 ∷ 128 ∷ 1 ∷ 0 ∷ 9 ∷ [])
-    × (writtenOf (writableOf (component 4 0 0 absentNumber absentNumber 0 256)) (componentText (component 4 0 0 absentNumber absentNumber 0 256)) (9 ∷ 9 ∷ 9 ∷ 9 ∷ 9 ∷ 9 ∷ []) ≡ Written.Refused 8)
-    × (leavesOf (writableOf (component 4 0 0 absentNumber absentNumber 0 256)) (componentText (component 4 0 0 absentNumber absentNumber 0 256)) (9 ∷ 9 ∷ 9 ∷ 9 ∷ 9 ∷ 9 ∷ []) ≡ 9 ∷ 9 ∷ 9 ∷ 9 ∷ 9 ∷ 9 ∷ [])
-    × (writtenOf (writableOf (component 2 3 86 (number 143 999999999999999) absentNumber 921599 3)) (componentText (component 2 3 86 (number 143 999999999999999) absentNumber 921599 3)) (9 ∷ 9 ∷ 9 ∷ 9 ∷ 9 ∷ 9 ∷ 9 ∷ 9 ∷ 9 ∷ 9 ∷ 9 ∷ 9 ∷ 9 ∷ 9 ∷ 9 ∷ 9 ∷ 9 ∷ 9 ∷ 9 ∷ 9 ∷ 9 ∷ 9 ∷ 9 ∷ 9 ∷ 9 ∷ 9 ∷ 9 ∷ 9 ∷ 9 ∷ 9 ∷ 9 ∷ 9 ∷ 9 ∷ 9 ∷ 9 ∷ 9 ∷ 9 ∷ 9 ∷ []) ≡ Written.Done 38)
-    × (writtenOf (writableOf (component 3 13 0 absentNumber absentNumber 0 1)) (componentText (component 3 13 0 absentNumber absentNumber 0 1)) [] ≡ Written.Refused 3)
-    × (writtenOf (writableOf (component 2 3 64 absentNumber absentNumber 921600 1)) (componentText (component 2 3 64 absentNumber absentNumber 921600 1)) [] ≡ Written.Refused 3)
-    × (writtenOf (writableOf (component 2 1 4 absentNumber absentNumber 0 1)) (componentText (component 2 1 4 absentNumber absentNumber 0 1)) [] ≡ Written.Refused 3)
-    × (writtenOf (writableOf (component 3 5 0 absentNumber absentNumber 0 256)) (componentText (component 3 5 0 absentNumber absentNumber 0 256)) [] ≡ Written.Refused 3)
-unfolding writtenOf leavesOf writableOf allOf shapeOk shapeBy rangeOk argumentOk resultOk partyOk durationOk componentText invokeText resultText heldText errorText rejectText rejectedText idText codeText seqText partsText firstText partiesText lastText flagText partyText durationText numberText paddedOf octetsOf elementText textIf ifLt ifLe ifEq ifSo
+-- just room enough, a byte more, which stays, a byte less: 8, and nothing is written. 3 before 8, with the first bad field: error 13, a Duration
+-- too long, part 4 alone, an error with no identifier
+written : (writtenOf (badOf (component 4 0 0 absentNumber absentNumber 0 256)) (componentText (component 4 0 0 absentNumber absentNumber 0 256)) (9 ∷ 9 ∷ 9 ∷ 9 ∷ 9 ∷ 9 ∷ 9 ∷ []) ≡ Written.Done 7)
+    × (leavesOf (badOf (component 4 0 0 absentNumber absentNumber 0 256)) (componentText (component 4 0 0 absentNumber absentNumber 0 256)) (9 ∷ 9 ∷ 9 ∷ 9 ∷ 9 ∷ 9 ∷ 9 ∷ 9 ∷ []) ≡ 164 ∷ 5 ∷ 5 ∷ 0 ∷ 128 ∷ 1 ∷ 0 ∷ 9 ∷ [])
+    × (writtenOf (badOf (component 4 0 0 absentNumber absentNumber 0 256)) (componentText (component 4 0 0 absentNumber absentNumber 0 256)) (9 ∷ 9 ∷ 9 ∷ 9 ∷ 9 ∷ 9 ∷ []) ≡ Written.Refused 8 0)
+    × (leavesOf (badOf (component 4 0 0 absentNumber absentNumber 0 256)) (componentText (component 4 0 0 absentNumber absentNumber 0 256)) (9 ∷ 9 ∷ 9 ∷ 9 ∷ 9 ∷ 9 ∷ []) ≡ 9 ∷ 9 ∷ 9 ∷ 9 ∷ 9 ∷ 9 ∷ [])
+    × (writtenOf (badOf (component 2 3 86 (number 143 999999999999999) absentNumber 921599 3)) (componentText (component 2 3 86 (number 143 999999999999999) absentNumber 921599 3)) (9 ∷ 9 ∷ 9 ∷ 9 ∷ 9 ∷ 9 ∷ 9 ∷ 9 ∷ 9 ∷ 9 ∷ 9 ∷ 9 ∷ 9 ∷ 9 ∷ 9 ∷ 9 ∷ 9 ∷ 9 ∷ 9 ∷ 9 ∷ 9 ∷ 9 ∷ 9 ∷ 9 ∷ 9 ∷ 9 ∷ 9 ∷ 9 ∷ 9 ∷ 9 ∷ 9 ∷ 9 ∷ 9 ∷ 9 ∷ 9 ∷ 9 ∷ 9 ∷ 9 ∷ []) ≡ Written.Done 38)
+    × (writtenOf (badOf (component 3 13 0 absentNumber absentNumber 0 1)) (componentText (component 3 13 0 absentNumber absentNumber 0 1)) [] ≡ Written.Refused 3 2)
+    × (writtenOf (badOf (component 2 3 64 absentNumber absentNumber 921600 1)) (componentText (component 2 3 64 absentNumber absentNumber 921600 1)) [] ≡ Written.Refused 3 4)
+    × (writtenOf (badOf (component 2 1 4 absentNumber absentNumber 0 1)) (componentText (component 2 1 4 absentNumber absentNumber 0 1)) [] ≡ Written.Refused 3 3)
+    × (writtenOf (badOf (component 3 5 0 absentNumber absentNumber 0 256)) (componentText (component 3 5 0 absentNumber absentNumber 0 256)) [] ≡ Written.Refused 3 4)
+unfolding writtenOf leavesOf badOf badFrom fieldsOf fieldIf rangeOk bothOk itemOk argumentOk resultOk placesOk unnamedOk untimedOk partsOk numberOk durationOk idOk componentText invokeText resultText heldText errorText rejectText rejectedText idText codeText seqText partsText firstText partiesText lastText flagText partyText durationText numberText paddedOf octetsOf elementText textIf ifLt ifLe ifEq ifSo
 written = (refl, refl, refl, refl, refl, refl, refl, refl, refl)
+
+-- the first field out of range, by its ordinal: each of the six of a result with a number and a Duration; the identifier where there are
+-- fewer before it; a value that the parts do not name is field 3, before the others; of two the first is told
+fields : (badOf (component 2 3 80 (number 2 12) absentNumber 5 255) ≡ 0)
+    × (badOf (component 5 3 80 (number 2 12) absentNumber 5 255) ≡ 1)
+    × (badOf (component 2 4 80 (number 2 12) absentNumber 5 255) ≡ 2)
+    × (badOf (component 2 3 112 (number 2 12) (number 2 12) 5 255) ≡ 3)
+    × (badOf (component 2 3 80 (number 2 100) absentNumber 5 255) ≡ 4)
+    × (badOf (component 2 3 80 (number 2 12) absentNumber 921600 255) ≡ 5)
+    × (badOf (component 2 3 80 (number 2 12) absentNumber 5 256) ≡ 6)
+    × (badOf (component 2 3 0 absentNumber absentNumber 0 256) ≡ 4)
+    × (badOf (component 2 3 64 absentNumber absentNumber 921600 256) ≡ 4)
+    × (badOf (component 2 3 64 absentNumber absentNumber 5 256) ≡ 5)
+    × (badOf (component 2 1 32 absentNumber (number 16 1) 0 255) ≡ 4)
+    × (badOf (component 2 3 80 (number 2 12) (number 2 12) 5 255) ≡ 3)
+    × (badOf (component 2 3 16 (number 16 12) absentNumber 5 256) ≡ 3)
+    × (badOf (component 3 13 1 absentNumber absentNumber 5 256) ≡ 2)
+    × (badOf (component 4 0 0 absentNumber absentNumber 0 257) ≡ 4)
+    × (badOf (component 0 0 255 absentNumber absentNumber 5 300) ≡ 1)
+unfolding badOf badFrom fieldsOf fieldIf rangeOk bothOk itemOk argumentOk resultOk placesOk unnamedOk untimedOk partsOk numberOk durationOk idOk ifLt ifEq ifSo
+fields = (refl, refl, refl, refl, refl, refl, refl, refl, refl, refl, refl, refl, refl, refl, refl, refl)

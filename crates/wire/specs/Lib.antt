@@ -7,3 +7,4 @@ pub mod Parameters
 pub mod Quick
 pub mod Texts
 pub mod Values
+pub mod Writable

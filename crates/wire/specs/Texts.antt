@@ -1,5 +1,5 @@
--- The bytes of a component, and of a parameter of one, as they are written: every length is the shortest, one byte. What can be written, and
--- what the writers answer and leave.
+-- The bytes of a component, and of a parameter of one, as they are written: every length is the shortest, one byte. And what the writers
+-- answer and leave. (Writable.antt has what can be written.)
 -- Assumes nothing.
 use mathlib.Core.List.{List, [], _∷_, _++_}
 use Prim.Native.Nat.{ℕ, zero, suc, _+_, _*_, _/_, _%_, _^_}
@@ -95,57 +95,12 @@ componentText c = ifEq (c .kind) 1 (invokeText c) (ifEq (c .kind) 2 (resultText 
 unfoldable pub parameterText : Component → List ℕ
 parameterText c = 50 ∷ (length (componentText c) + 1) ∷ 145 ∷ componentText c
 
--- ---- what can be written
+-- ---- what a writer of the text t answers and leaves, where bad is the ordinal of the first field out of range, or 0
 
--- a number that is present has 1 to 15 digits, and a value of so many; one that is not is 0 and 0
-unfoldable pub partyOk : ℕ → Number → ℕ
-partyOk present n =
-    ifEq present 1
-    (ifLt (n .count % 128) 1 0 (ifLt 15 (n .count % 128) 0 (ifLt (n .value) (10 ^ (n .count % 128)) 1 0)))
-    (ifEq (n .count) 0 (ifEq (n .value) 0 1 0) 0)
-
-unfoldable pub durationOk : ℕ → ℕ → ℕ
-durationOk present t = ifEq present 1 (ifLt 921599 t 0 1) (ifEq t 0 1 0)
-
--- the parts that an invoke, and a result, have a place for; 4 only with 2
-unfoldable pub argumentOk : ℕ → ℕ → ℕ
-argumentOk x p = ifEq x 3 (ifEq (p % 2 + p / 8 % 2 * 8 + p / 32 % 2 * 32) p 1 0) (ifEq (p % 2 + p / 16 % 2 * 16) p 1 0)
-
-unfoldable pub resultOk : ℕ → ℕ → ℕ
-resultOk x p =
-    ifLt (p / 2 % 2) (p / 4 % 2) 0
-    (ifEq x 3 (ifEq (p / 2 % 2 * 2 + p / 4 % 2 * 4 + p / 16 % 2 * 16 + p / 64 % 2 * 64) p 1 0) (ifEq (p / 2 % 2 * 2 + p / 4 % 2 * 4 + p / 32 % 2 * 32) p 1 0))
-
--- identifier and number in their ranges
-unfoldable pub rangeOk : ℕ → ℕ → ℕ → ℕ → ℕ
-rangeOk x n low high = ifLt 255 x 0 (ifLt n low 0 (ifLt high n 0 1))
-
-unfoldable pub shapeBy : ℕ → ℕ → ℕ → ℕ → ℕ → ℕ → ℕ → ℕ → ℕ
-shapeBy k n p x calls fails args results =
-    ifEq k 1 (ifEq calls 1 args 0)
-    (ifEq k 2 (ifEq calls 1 results 0)
-    (ifEq k 3 (ifEq fails 1 (ifEq p 0 1 0) 0)
-    (ifEq k 4 (ifLt 256 x 0 (ifEq n 0 (ifEq p 0 1 0) 0))
-    0)))
-
--- kind, operation or error, parts and identifier go together
-unfoldable pub shapeOk : ℕ → ℕ → ℕ → ℕ → ℕ
-shapeOk k n p x = shapeBy k n p x (rangeOk x n 1 3) (rangeOk x n 4 12) (argumentOk n p) (resultOk n p)
-
-unfoldable pub allOf : ℕ → ℕ → ℕ → ℕ → ℕ
-allOf a b c d = ifEq a 1 (ifEq b 1 (ifEq c 1 (ifEq d 1 1 0) 0) 0) 0
-
-unfoldable pub writableOf : Component → ℕ
-writableOf c =
-    allOf (shapeOk (c .kind) (c .item) (c .parts) (c .id)) (partyOk (c .parts / 16 % 2) (c .calling)) (partyOk (c .parts / 32 % 2) (c .called))
-    (durationOk (c .parts / 64 % 2) (c .duration))
-
--- ---- what a writer of the text t answers and leaves, where ok is 1 for what can be written
-
--- 3, then 8, then the length
+-- 3 with that ordinal, then 8, then the length
 unfoldable pub writtenOf : ℕ → List ℕ → List ℕ → Written
-writtenOf ok t out = ifEq ok 1 (ifLt (length out) (length t) (Refused 8) (Done (length t))) (Refused 3)
+writtenOf bad t out = ifEq bad 0 (ifLt (length out) (length t) (Refused 8 0) (Done (length t))) (Refused 3 bad)
 
 -- bytes past the text stay; on a refusal all do
 unfoldable pub leavesOf : ℕ → List ℕ → List ℕ → List ℕ
-leavesOf ok t out = ifEq ok 1 (ifLt (length out) (length t) out (t ++ drop (length t) out)) out
+leavesOf bad t out = ifEq bad 0 (ifLt (length out) (length t) out (t ++ drop (length t) out)) out

@@ -111,8 +111,8 @@ pub enum Whole {
     Several(usize),
 }
 
-// A text written, with its length; or a refusal's number.
+// A text written, with its length; or a refusal's number, and with 3 the ordinal of the first field that is out of range, else 0.
 pub enum Written {
     Done(usize),
-    Refused(u8),
+    Refused(u8, u8),
 }

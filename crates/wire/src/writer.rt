@@ -5,11 +5,12 @@ ghost use Prim.Native.Nat.{_+_, _*_, _/_, _%_, _≤_, _<_, _^_};
 ghost use lib.ListN.{length};
 ghost use Rattle.text.specs.Choose.{ifEq};
 ghost use Rattle.text.specs.Text.{Put};
-ghost use Rattle.wire.specs.Texts.{pairByte, octetsOf, paddedOf, numberText, flagText, partyText, durationText, firstText, partiesText, lastText, partsText, seqText, idText, rejectedText, codeText, invokeText, heldText, resultText, errorText, rejectText, componentText, parameterText, writableOf, writtenOf, leavesOf};
+ghost use Rattle.wire.specs.Texts.{pairByte, octetsOf, paddedOf, numberText, flagText, partyText, durationText, firstText, partiesText, lastText, partsText, seqText, idText, rejectedText, codeText, invokeText, heldText, resultText, errorText, rejectText, componentText, parameterText, writtenOf, leavesOf};
+ghost use Rattle.wire.specs.Writable.{badOf};
 use crate::Component;
 use crate::Number;
 use crate::Written;
-use crate::writable::writable;
+use crate::writable::bad_field;
 use text::put;
 
 const BAD_FIELD: u8 = 3;
@@ -338,20 +339,21 @@ fn put_component(out: &mut [u8], at: usize, c: Component) -> usize
     put_reject(out, at, c)
 }
 
-// 3 for what cannot be written, then 8 for too little room; else the component's bytes.
+// 3 and the first bad field for what cannot be written, then 8 for too little room; else the component's bytes.
 pub fn write_component(c: Component, out: &mut [u8]) -> Written
-    ensures { λ r. ⌜ (r ≡ writtenOf (writableOf c) (componentText c) (now (out .entry)))
-        × (now (out .exit) ≡ leavesOf (writableOf c) (componentText c) (now (out .entry))) ⌝ }
+    ensures { λ r. ⌜ (r ≡ writtenOf (badOf c) (componentText c) (now (out .entry)))
+        × (now (out .exit) ≡ leavesOf (badOf c) (componentText c) (now (out .entry))) ⌝ }
 {
-    if writable(c) == 1 {
+    let bad = bad_field(c);
+    if bad == 0 {
         let n = wide(size(c));
         if out.len() < n {
-            return Written::Refused(NO_ROOM);
+            return Written::Refused(NO_ROOM, 0);
         }
         put_component(out, 0, c);
         return Written::Done(n);
     }
-    Written::Refused(BAD_FIELD)
+    Written::Refused(BAD_FIELD, bad)
 }
 
 fn put_parameter(out: &mut [u8], at: usize, c: Component) -> usize
@@ -365,16 +367,17 @@ fn put_parameter(out: &mut [u8], at: usize, c: Component) -> usize
 
 // The same for a whole parameter of this one component.
 pub fn write_parameter(c: Component, out: &mut [u8]) -> Written
-    ensures { λ r. ⌜ (r ≡ writtenOf (writableOf c) (parameterText c) (now (out .entry)))
-        × (now (out .exit) ≡ leavesOf (writableOf c) (parameterText c) (now (out .entry))) ⌝ }
+    ensures { λ r. ⌜ (r ≡ writtenOf (badOf c) (parameterText c) (now (out .entry)))
+        × (now (out .exit) ≡ leavesOf (badOf c) (parameterText c) (now (out .entry))) ⌝ }
 {
-    if writable(c) == 1 {
+    let bad = bad_field(c);
+    if bad == 0 {
         let n = wide(size(c)) + 3;
         if out.len() < n {
-            return Written::Refused(NO_ROOM);
+            return Written::Refused(NO_ROOM, 0);
         }
         put_parameter(out, 0, c);
         return Written::Done(n);
     }
-    Written::Refused(BAD_FIELD)
+    Written::Refused(BAD_FIELD, bad)
 }

@@ -1,4 +1,4 @@
-use Rattle.wire.specs.Texts.{argumentOk}
+use Rattle.wire.specs.Writable.{argumentOk}
 use Rattle.text.proofs.Cases.{cases}
 use borrow.Author.Needs.{needs}
 use Rattle.wire.proofs.writable.argument_ok.Statement.{statement}

@@ -1,4 +1,4 @@
-use Rattle.wire.specs.Texts.{durationOk}
+use Rattle.wire.specs.Writable.{durationOk}
 use Rattle.text.proofs.Cases.{cases}
 use Rattle.wire.proofs.writable.duration_ok.Statement.{statement}
 use Rattle.wire.proofs.writable.duration_ok.Tie as tie
@@ -15,9 +15,5 @@ returns-3 : tie.Need-returns-3
 unfolding durationOk
 returns-3 c = search cases depth 20
 
-returns-4 : tie.Need-returns-4
-unfolding durationOk
-returns-4 c = search cases depth 20
-
 pub duration-ok-spec : {M : Type 1} → statement M
-duration-ok-spec = tie.close (tie.spec returns returns-2 returns-3 returns-4)
+duration-ok-spec = tie.close (tie.spec returns returns-2 returns-3)

@@ -1,4 +1,4 @@
-use Rattle.wire.specs.Texts.{resultOk}
+use Rattle.wire.specs.Writable.{resultOk}
 use Rattle.text.proofs.Cases.{cases}
 use borrow.Author.Needs.{needs}
 use Rattle.wire.proofs.writable.result_ok.Statement.{statement}

@@ -5,8 +5,8 @@ use borrow.Author.Needs.{needs}
 use Rattle.wire.proofs.writer.write_component.Statement.{statement}
 use Rattle.wire.proofs.writer.write_component.Tie as tie
 
-writable-requires : tie.Need-writable-requires
-writable-requires c κs = search needs
+bad-field-requires : tie.Need-bad-field-requires
+bad-field-requires c κs = search needs
 
 size-requires : tie.Need-size-requires
 size-requires c κs = search needs
@@ -15,7 +15,7 @@ wide-requires : tie.Need-wide-requires
 wide-requires c κs = search needs
 
 returns : tie.Need-returns
-returns c = write-full _ _ _ _ (c .before .before .before .before .writable .ensures) _ (omega arith) (c .before .wide .ensures .0 ∙ c .before .before .size .ensures .0) (omega arith)
+returns c = write-full _ _ _ _ (c .before .before .before .before .bad-field .ensures) _ (omega arith) (c .before .wide .ensures .0 ∙ c .before .before .size .ensures .0) (omega arith)
 
 put-component-requires : tie.Need-put-component-requires
 put-component-requires c κs = search needs
@@ -24,16 +24,16 @@ same-length : tie.Need-same-length
 same-length c = search needs
 
 returns-2 : tie.Need-returns-2
-returns-2 c = let p = c .before .before in let q = p .before .before .before in write-fits _ _ _ _ (q .before .before .before .writable .ensures) _ (omega arith) (q .wide .ensures .0 ∙ q .before .size .ensures .0) _ _ (omega arith) (p .put-component .ensures)
+returns-2 c = let p = c .before .before in let q = p .before .before .before in write-fits _ _ _ _ (q .before .before .before .bad-field .ensures) _ (omega arith) (q .wide .ensures .0 ∙ q .before .size .ensures .0) _ _ (omega arith) (p .put-component .ensures)
 
 returns-3 : tie.Need-returns-3
-returns-3 c = write-not _ _ _ _ (c .before .writable .ensures) (λ e. omega arith)
+returns-3 c = write-not _ _ _ _ (c .before .bad-field .ensures) (λ e. omega arith)
 
 pub write-component-spec : {M : Type 1} → statement M
 write-component-spec =
     tie.close
     (tie.spec
-    writable-requires
+    bad-field-requires
     size-requires
     wide-requires
     returns
