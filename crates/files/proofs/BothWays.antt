@@ -13,7 +13,7 @@ use borrow.Author.Tests.{eqb-true}
 use Rattle.text.specs.Choose.{ifEq, ifSo}
 use Rattle.text.proofs.Cases.{no-lt, yes-eq, no-eq, yes-le, no-le, both-lt, both-le, both-eq}
 use Rattle.rows.specs.Read.{bit}
-use Rattle.rows.specs.Valid.{numberThere, eventOk, openingOk, messageOk, componentOk, partsOk}
+use Rattle.rows.specs.Valid.{numberThere, codeOk, eventOk}
 use Rattle.rows.specs.Valid.{numberIf as numberOk}
 use Rattle.rows.specs.declared.Component.{Component}
 use Rattle.rows.specs.declared.Component.the-variants.{Absent, Invoke, Result, Error, Reject, Unknown}
@@ -21,6 +21,7 @@ use Rattle.rows.specs.declared.Event.{Event}
 use Rattle.rows.specs.declared.Event.the-variants.{Opening, Ask, Received, FromAccess, Expiry, Time}
 use Rattle.rows.specs.declared.Message.{Message}
 use Rattle.rows.specs.declared.Number.{Number}
+use Rattle.rows.proofs.Ranges.{message-in-range}
 use Rattle.rows.proofs.Truth.{left, right, differ}
 use Rattle.files.specs.Bytes.{byteAt, leAt, leOf, part}
 use Rattle.files.specs.Fields.{openingFields, askFields, messageFields, sizeOf, valuesAt, bytesOf}
@@ -50,34 +51,21 @@ duration-fits zero n g h e = let v : n ≡ 0 = eqb-true n 0 e in omega arith
 duration-fits (suc zero) n g h e = h
 duration-fits (suc (suc k)) n g h e = absurd (omega arith)
 
--- of seven tests that came out true, what a message's fields are asked
-some-of : (a b c d e f g : Bool) → (a && (b && (c && (d && (e && (f && g)))))) ≡ true → (c ≡ true) × (e ≡ true) × (f ≡ true) × (g ≡ true)
-some-of a b c d e f g h =
-    let x = right b _ (right a _ h) in
-    let y = right d _ (right c _ x) in
-    (left c _ x, left e _ y, left f _ (right e _ y), right f _ (right e _ y))
+-- the numbers of an opening and of a request, each its last field
+opening-there : (role flags : ℕ) (own : Number) → eventOk (Opening role flags own) ≡ true → numberThere own ≡ true
+opening-there role flags own k = left (numberThere own) _ (right (leb flags 31) _ (right (leb role 1) _ k))
 
-abbrev MessageParts : Message → Type 0
-MessageParts m =
-    (componentOk (m .component) ≡ true) × (numberOk (bit 16 (m .parts)) (m .calling) ≡ true)
-    × (numberOk (bit 32 (m .parts)) (m .called) ≡ true) × ((bit 64 (m .parts) || eqb (m .duration) 0) ≡ true)
-
-message-parts : (m : Message) → messageOk m ≡ true → MessageParts m
-message-parts m h =
-    some-of (leb 1 (m .kind) && leb (m .kind) 5) (leb (m .cause) 127) (componentOk (m .component)) (partsOk (m .parts))
-    (numberOk (bit 16 (m .parts)) (m .calling)) (numberOk (bit 32 (m .parts)) (m .called)) (bit 64 (m .parts) || eqb (m .duration) 0) h
-
-opening-there : (role flags : ℕ) (own : Number) → openingOk role flags own ≡ true → numberThere own ≡ true
-opening-there role flags own k = right (leb flags 31) _ (right (leb role 1) _ k)
+ask-named : (item : ℕ) (called : Number) → eventOk (Ask item called) ≡ true → numberOk (leb item 1) called ≡ true
+ask-named item called k = left (numberOk (leb item 1) called) _ (right (leb item 3) _ k)
 
 pub fits : (e : Event) → eventOk e ≡ true → Typed e → Fits (fieldsOf e) (valuesOf e)
 fits (Opening role flags own) k h = (h .0, (h .1, (there-byte own (opening-there role flags own k), (h .2 .1, tt))))
-fits (Ask item called) k h = (h .0, (named-byte (leb item 1) called (right (leb item 3) _ k), (h .1 .1, tt)))
+fits (Ask item called) k h = (h .0, (named-byte (leb item 1) called (ask-named item called k), (h .1 .1, tt)))
 fits (Received m) k h =
-    let o = message-parts m k in
-    let p = number-fits (part (m .parts) 16) (m .calling) (omega arith) (h .5) (o .1) in
-    let q = number-fits (part (m .parts) 32) (m .called) (omega arith) (h .6) (o .2) in
-    let r = duration-fits (part (m .parts) 64) (m .duration) (omega arith) (h .7) (o .3) in
+    let o = message-in-range m k in
+    let p = number-fits (part (m .parts) 16) (m .calling) (omega arith) (h .5) (o .calling) in
+    let q = number-fits (part (m .parts) 32) (m .called) (omega arith) (h .6) (o .called) in
+    let r = duration-fits (part (m .parts) 64) (m .duration) (omega arith) (h .7) (o .duration) in
     (h .0, (h .1, (h .2, (h .3, (h .4, (p .0, (p .1, (q .0, (q .1, (r, tt))))))))))
 fits (FromAccess item error) k h = (h .0, (h .1, tt))
 fits Expiry k h = tt
@@ -114,7 +102,7 @@ body-length (Time seconds) = omega arith
 
 -- ---- what stands in a file is read
 
-component-back : (c : Component) → componentOk c ≡ true → componentOf (codeOf c) (itemOf c) ≡ c
+component-back : (c : Component) → codeOk c ≡ true → componentOf (codeOf c) (itemOf c) ≡ c
 unfolding componentOf ifEq ifSo
 component-back (Absent n) h = refl
 component-back (Invoke n) h = refl
@@ -144,21 +132,21 @@ remade m c calling called =
       duration = m .duration;
     }
 
-message-back : (m : Message) → messageOk m ≡ true → messageFrom (valuesOf (Received m)) ≡ m
+message-back : (m : Message) → eventOk (Received m) ≡ true → messageFrom (valuesOf (Received m)) ≡ m
 message-back m k =
-    let p = message-parts m k in
+    let p = message-in-range m k in
     let calling : Number = numberBy (countByte (m .calling .nature) (m .calling .count)) (m .calling .value) in
     let called : Number = numberBy (countByte (m .called .nature) (m .called .count)) (m .called .value) in
-    ap (λ (c : Component). remade m c calling called) (component-back (m .component) (p .0))
-    ∙ ap (λ (n : Number). remade m (m .component) n called) (number-again (m .calling) (named-small (bit 16 (m .parts)) (m .calling) (p .1)))
-    ∙ ap (λ (n : Number). remade m (m .component) (m .calling) n) (number-again (m .called) (named-small (bit 32 (m .parts)) (m .called) (p .2)))
+    ap (λ (c : Component). remade m c calling called) (component-back (m .component) (p .code))
+    ∙ ap (λ (n : Number). remade m (m .component) n called) (number-again (m .calling) (named-small (bit 16 (m .parts)) (m .calling) (p .calling)))
+    ∙ ap (λ (n : Number). remade m (m .component) (m .calling) n) (number-again (m .called) (named-small (bit 32 (m .parts)) (m .called) (p .called)))
 
 event-back : (s : List ℕ) (b : ℕ) (e : Event) → eventOk e ≡ true → valuesAt s b (fieldsOf e) ≡ valuesOf e → eventAt s b (kindOf e) ≡ e
 unfolding eventAt openingAt askAt messageAt accessAt timeAt ifEq ifSo
 event-back s b (Opening role flags own) k v =
     ap openingFrom v ∙ ap (Opening role flags) (number-again own (there-small own (opening-there role flags own k)))
 event-back s b (Ask item called) k v =
-    ap askFrom v ∙ ap (Ask item) (number-again called (named-small (leb item 1) called (right (leb item 3) _ k)))
+    ap askFrom v ∙ ap (Ask item) (number-again called (named-small (leb item 1) called (ask-named item called k)))
 event-back s b (Received m) k v =
     ap Received (ap (λ (n : ℕ). messageFrom (valuesAt s b (messageFields n))) (parts-at s b m v) ∙ ap messageFrom v ∙ message-back m k)
 event-back s b (FromAccess item error) k v = ap accessFrom v

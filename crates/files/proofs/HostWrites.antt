@@ -4,20 +4,22 @@ use mathlib.Core.Bool.{true, false}
 use mathlib.Core.List.{List, _++_}
 use mathlib.Core.Logic.{_↔_}
 use mathlib.Core.Path.{_≡_, refl, sym, ap, ap₂, _∙_}
-use Prim.Native.Nat.{ℕ, _+_, _-_, _≤_, _<_}
+use Prim.Native.Nat.{ℕ, suc, _+_, _-_, _*_, _≤_, _<_}
 use native.Mathlib.Omega.{arith}
 use lib.ListN.{length, take, drop}
 use lib.Seq.{take-append-seam, drop-append-seam}
 use Rattle.text.proofs.Cases.{yes-so, no-so, yes-lt, no-lt, both-so, both-lt}
-use Rattle.rows.specs.Valid.{eventOk}
+use Rattle.rows.specs.Reasons.{FirstOut}
+use Rattle.rows.specs.Valid.{rangesOf, eventOk, badFieldOf}
 use Rattle.rows.specs.declared.Event.{Event}
+use Rattle.rows.proofs.Ranges.{first-bad-exactly, none-bad-exactly}
 use Rattle.rows.proofs.Truth.{differ}
 use Rattle.files.specs.Bodies.{kindOf, fieldsOf, valuesOf, headOf, recordOf, readAt}
 use Rattle.files.specs.Bytes.{leAt, leOf}
 use Rattle.files.specs.Fields.{bytesOf}
 use Rattle.files.specs.Frames.{lengthWith}
 use Rattle.files.specs.Typed.{AllBytes, Typed}
-use Rattle.files.specs.Write.{writtenOf, leftOf, numberOf, bytesWritten}
+use Rattle.files.specs.Write.{writtenOf, leftOf, numberOf, bytesWritten, givesBack}
 use Rattle.files.specs.declared.Read.{Read}
 use Rattle.files.specs.declared.Written.{Written}
 use Rattle.files.specs.declared.Written.the-variants.{Whole}
@@ -26,10 +28,12 @@ use Rattle.files.proofs.Same.{Wrote, Numbered}
 
 -- A writer gave r for the event e, and left the buffer `new` where `old` was
 pub record Writes (e : Event) (old : List ℕ) (r : ℕ) (new : List ℕ) : Type 0 where
-  -- 3 for a field out of range, whatever the room; 8 for a record in range that is longer than the room; else 0
-  pub three : (r ≡ 3) ↔ (eventOk e ≡ false)
+  -- 3 and an ordinal for a field out of range, whatever the room; 8 for a record in range that is longer than the room; else 0
+  pub three : (r ≡ 3 + 256 * badFieldOf e) ↔ (eventOk e ≡ false)
   pub eight : (r ≡ 8) ↔ ((eventOk e ≡ true) × (length old < length (recordOf e)))
   pub done : (r ≡ 0) ↔ ((eventOk e ≡ true) × (length (recordOf e) ≤ length old))
+  -- the ordinal, from 1, is that of the field that is out of range with every field before it in range
+  pub field : (k : ℕ) → (r ≡ 3 + 256 * suc k) ↔ FirstOut (rangesOf e) k
   -- on a refusal every byte is as it was
   pub refused : (r ≡ 0 → ⊥) → new ≡ old
   -- on 0 the buffer begins with the record, and the bytes past it stay
@@ -53,12 +57,17 @@ first-two : (e : Event) (rest : List ℕ) → 2 + leAt 2 (recordOf e ++ rest) 0 
 first-two e rest = ap (λ (n : ℕ). 2 + n) (stated-first e rest) ∙ sym (record-length e)
 
 module _ (e : Event) (old : List ℕ) (r : ℕ) (new : List ℕ) where
-  is-bad : eventOk e ≡ false → r ≡ 3 → new ≡ old → Writes e old r new
+  -- where all fields are in range, none is the first that is not
+  none-first : eventOk e ≡ true → (k : ℕ) → FirstOut (rangesOf e) k → ⊥
+  none-first h k f = omega (arith, first-bad-exactly e k .1 f, none-bad-exactly e .1 h)
+
+  is-bad : eventOk e ≡ false → r ≡ 3 + 256 * badFieldOf e → new ≡ old → Writes e old r new
   is-bad h g f =
       record {
         three = (λ _. h, λ _. g);
         eight = (λ k. absurd (omega arith), λ k. differ (sym h ∙ k .0));
         done = (λ k. absurd (omega arith), λ k. differ (sym h ∙ k .0));
+        field = λ k. (λ i. first-bad-exactly e k .0 (omega arith), λ i. omega (arith, first-bad-exactly e k .1 i));
         refused = λ _. f;
         written = λ k. absurd (omega arith);
         beyond = λ k. absurd (omega arith);
@@ -72,6 +81,7 @@ module _ (e : Event) (old : List ℕ) (r : ℕ) (new : List ℕ) where
         three = (λ k. absurd (omega arith), λ k. differ (sym k ∙ h));
         eight = (λ _. (h, l), λ _. g);
         done = (λ k. absurd (omega arith), λ k. absurd (omega (arith, k .1)));
+        field = λ k. (λ i. absurd (omega arith), λ i. absurd (none-first h k i));
         refused = λ _. f;
         written = λ k. absurd (omega arith);
         beyond = λ k. absurd (omega arith);
@@ -87,6 +97,7 @@ module _ (e : Event) (old : List ℕ) (r : ℕ) (new : List ℕ) where
         three = (λ k. absurd (omega arith), λ k. differ (sym k ∙ h));
         eight = (λ k. absurd (omega arith), λ k. absurd (omega (arith, k .1)));
         done = (λ _. (h, l), λ _. g);
+        field = λ k. (λ i. absurd (omega arith), λ i. absurd (none-first h k i));
         refused = λ k. absurd (k g);
         written = λ _. rw f (take-append-seam (recordOf e) rest);
         beyond = λ _. rw f (drop-append-seam (recordOf e) rest);
@@ -102,10 +113,10 @@ host-writes e old r new (g, f) =
     (λ h.
     both-lt (length old) (length (recordOf e)) (λ (_ : ℕ). Writes e old r new) 0 0
     (λ l.
-    is-narrow e old r new h l (g ∙ ap numberOf (sym (yes-so _ _ _ _ h (yes-lt _ _ _ _ _ l refl)))) (f ∙ sym (yes-so _ _ _ _ h (yes-lt _ _ _ _ _ l refl))))
+    is-narrow e old r new h l (g ∙ ap givesBack (sym (yes-so _ _ _ _ h (yes-lt _ _ _ _ _ l refl)))) (f ∙ sym (yes-so _ _ _ _ h (yes-lt _ _ _ _ _ l refl))))
     (λ l.
-    is-whole e old r new h l (g ∙ ap numberOf (sym (yes-so _ _ _ _ h (no-lt _ _ _ _ _ l refl)))) (f ∙ sym (yes-so _ _ _ _ h (no-lt _ _ _ _ _ l refl)))))
-    (λ h. is-bad e old r new h (g ∙ ap numberOf (sym (no-so _ _ _ _ h refl))) (f ∙ sym (no-so _ _ _ _ h refl)))
+    is-whole e old r new h l (g ∙ ap givesBack (sym (yes-so _ _ _ _ h (no-lt _ _ _ _ _ l refl)))) (f ∙ sym (yes-so _ _ _ _ h (no-lt _ _ _ _ _ l refl)))))
+    (λ h. is-bad e old r new h (g ∙ ap givesBack (sym (no-so _ _ _ _ h refl))) (f ∙ sym (no-so _ _ _ _ h refl)))
 
 all-measured : (e : Event) (old : List ℕ) → numberOf (writtenOf e old) ≡ 0 → bytesWritten (writtenOf e old) ≡ length (recordOf e)
 unfolding writtenOf
@@ -116,12 +127,12 @@ all-measured e old =
     (λ _ k. absurd (omega arith)) (λ _ k. refl))
     (λ _ k. absurd (omega arith))
 
--- By the contract of `write_event`, which is `Wrote e old w new`: the same with the number of its answer, and on 0 the answer has the
--- record's length.
+-- By the contract of `write_event`, which is `Wrote e old w new`: the same with the number and the ordinal of its answer, and on 0 the answer
+-- has the record's length.
 pub event-written : (e : Event) (old : List ℕ) (w : Written) (new : List ℕ) → Wrote e old w new
-    → Writes e old (numberOf w) new × (numberOf w ≡ 0 → bytesWritten w ≡ length (recordOf e))
+    → Writes e old (givesBack w) new × (numberOf w ≡ 0 → bytesWritten w ≡ length (recordOf e))
 event-written e old w new (g, f) =
-    (host-writes e old (numberOf w) new (ap numberOf g, f), λ k. ap bytesWritten g ∙ all-measured e old (ap numberOf (sym g) ∙ k))
+    (host-writes e old (givesBack w) new (ap givesBack g, f), λ k. ap bytesWritten g ∙ all-measured e old (ap numberOf (sym g) ∙ k))
 
 -- What the reader accepts with every field in range, the writer writes back byte for byte, wherever there is room for it.
 pub read-then-written : (s : List ℕ) → AllBytes s → (at next : ℕ) (e : Event) → readAt s at ≡ Read.Got e next → eventOk e ≡ true

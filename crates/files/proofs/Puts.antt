@@ -13,7 +13,7 @@ use Rattle.text.specs.Text.{Put}
 use Rattle.text.specs.Choose.{ifEq, ifSo}
 use Rattle.text.proofs.Cases.{yes-so, no-so, yes-lt, no-lt}
 use Rattle.text.proofs.Laws.{put-none, put-in, put-after, put-as}
-use Rattle.rows.specs.Valid.{eventOk}
+use Rattle.rows.specs.Valid.{eventOk, badFieldOf}
 use Rattle.rows.specs.declared.Component.{Component}
 use Rattle.rows.specs.declared.Event.{Event}
 use Rattle.rows.specs.declared.Event.the-variants.{Opening, Ask, Received, FromAccess, Expiry, Time}
@@ -21,6 +21,7 @@ use Rattle.rows.specs.declared.Message.{Message}
 use Rattle.rows.specs.declared.Nature.{Nature}
 use Rattle.rows.specs.declared.Nature.the-variants.{National, International}
 use Rattle.rows.specs.declared.Number.{Number}
+use Rattle.rows.proofs.Ranges.{none-bad-exactly}
 use Rattle.files.specs.Bodies.{countByte, componentOf, codeOf, itemOf, numberValues, frontValues, carriedValues, kindOf, fieldsOf}
 use Rattle.files.specs.Bodies.{valuesOf, headOf, recordOf}
 use Rattle.files.specs.Bytes.{leOf, part}
@@ -28,7 +29,7 @@ use Rattle.files.specs.Fields.{numberFields, openingFields, askFields, f
 use Rattle.files.specs.Fields.{expiryFields, timeFields}
 use Rattle.files.specs.Fields.{sizeOf, bytesOf}
 use Rattle.files.specs.Frames.{lengthWith, lengthOf}
-use Rattle.files.specs.Write.{writtenOf, leftOf, numberOf, messageWith}
+use Rattle.files.specs.Write.{writtenOf, leftOf, givesBack, messageWith}
 use Rattle.files.specs.declared.Written.{Written}
 use Rattle.files.specs.declared.Written.the-variants.{Whole, BadField, NoRoom}
 use Rattle.files.proofs.BothWays.{record-length}
@@ -221,14 +222,24 @@ sizes = (refl, refl, refl, refl, refl)
 pub message-sized : (n parts : ℕ) → n ≡ 2 + lengthOf 3 parts → n ≡ 2 + lengthWith (messageFields parts)
 message-sized n parts e = e ∙ ap (λ (k : ℕ). 2 + k) (length-three parts)
 
--- ---- what is answered and left. t: whether the fields are in range; n: the record's length, as it was measured
+-- ---- what is answered and left. t: the ordinal of the first field out of range, 0 where there is none; n: the record's length, as it was
+-- measured
 
 module _ (e : Event) (out : List ℕ) where
-  pub bad-as : (t : Bool) → t ≡ eventOk e → t ≡ false → (BadField ≡ writtenOf e out) × (out ≡ leftOf e out)
-  unfolding writtenOf leftOf
-  bad-as t g h = (no-so _ _ _ _ (sym g ∙ h) refl, no-so _ _ _ _ (sym g ∙ h) refl)
+  some-bad : (b : Bool) → eventOk e ≡ b → (badFieldOf e ≡ 0 → ⊥) → eventOk e ≡ false
+  some-bad true h i = absurd (i (none-bad-exactly e .1 h))
+  some-bad false h i = h
 
-  module _ (t : Bool) (n : ℕ) (g : t ≡ eventOk e) (h : t ≡ true) (l : n ≡ 2 + lengthWith (fieldsOf e)) where
+  pub bad-as : (t : ℕ) → t ≡ badFieldOf e → (t ≡ 0 → ⊥) → (BadField t ≡ writtenOf e out) × (out ≡ leftOf e out)
+  unfolding writtenOf leftOf
+  bad-as t g h =
+      let b = some-bad (eventOk e) refl (λ z. h (g ∙ z)) in
+      (no-so _ _ _ _ b (ap BadField g), no-so _ _ _ _ b refl)
+
+  module _ (t : ℕ) (n : ℕ) (g : t ≡ badFieldOf e) (h : t ≡ 0) (l : n ≡ 2 + lengthWith (fieldsOf e)) where
+    good : eventOk e ≡ true
+    good = none-bad-exactly e .0 (sym g ∙ h)
+
     size : n ≡ length (recordOf e)
     size = l ∙ sym (record-length e)
 
@@ -236,7 +247,7 @@ module _ (e : Event) (out : List ℕ) where
     unfolding writtenOf leftOf
     narrow-as f =
         let k : length out < length (recordOf e) = omega (arith, size) in
-        (yes-so _ _ _ _ (sym g ∙ h) (yes-lt _ _ _ _ _ k refl), yes-so _ _ _ _ (sym g ∙ h) (yes-lt _ _ _ _ _ k refl))
+        (yes-so _ _ _ _ good (yes-lt _ _ _ _ _ k refl), yes-so _ _ _ _ good (yes-lt _ _ _ _ _ k refl))
 
     pub whole-as : (new : List ℕ) (r : ℕ) → n ≤ length out → Put out 0 (recordOf e) new r
         → (Whole r ≡ writtenOf e out) × (new ≡ leftOf e out)
@@ -245,8 +256,8 @@ module _ (e : Event) (out : List ℕ) where
         let k : length (recordOf e) ≤ length out = omega (arith, size) in
         let s : new ≡ recordOf e ++ drop (length (recordOf e)) out =
         p .bytes ∙ sets-eq (recordOf e) out 0 (omega arith) ∙ ap (λ (m : ℕ). recordOf e ++ drop m out) (zero-add (length (recordOf e))) in (
-          yes-so _ _ _ _ (sym g ∙ h) (no-lt _ _ _ _ _ k (ap Whole (p .place ∙ zero-add _))),
-          yes-so _ _ _ _ (sym g ∙ h) (no-lt _ _ _ _ _ k s),
+          yes-so _ _ _ _ good (no-lt _ _ _ _ _ k (ap Whole (p .place ∙ zero-add _))),
+          yes-so _ _ _ _ good (no-lt _ _ _ _ _ k s),
         )
 
 -- the event that was matched
@@ -254,14 +265,14 @@ pub matched-as : (e f : Event) (out new : List ℕ) (w : Written) → e ≡ f �
     → (w ≡ writtenOf e out) × (new ≡ leftOf e out)
 matched-as e f out new w g (a, b) = (a ∙ ap (λ (x : Event). writtenOf x out) (sym g), b ∙ ap (λ (x : Event). leftOf x out) (sym g))
 
--- the number of what was answered
-pub numbered-as : (e : Event) (out new : List ℕ) (w : Written) (r : ℕ) → r ≡ numberOf w → (w ≡ writtenOf e out) × (new ≡ leftOf e out)
-    → (r ≡ numberOf (writtenOf e out)) × (new ≡ leftOf e out)
-numbered-as e out new w r f (a, b) = (f ∙ ap numberOf a, b)
+-- what a host is given back of what was answered
+pub numbered-as : (e : Event) (out new : List ℕ) (w : Written) (r : ℕ) → r ≡ givesBack w → (w ≡ writtenOf e out) × (new ≡ leftOf e out)
+    → (r ≡ givesBack (writtenOf e out)) × (new ≡ leftOf e out)
+numbered-as e out new w r f (a, b) = (f ∙ ap givesBack a, b)
 
 -- of an event f that was made of what a host passed for e
-pub passed-as : (e f : Event) (out new : List ℕ) (w : Written) (r : ℕ) → f ≡ e → r ≡ numberOf w → (w ≡ writtenOf f out) × (new ≡ leftOf f out)
-    → (r ≡ numberOf (writtenOf e out)) × (new ≡ leftOf e out)
+pub passed-as : (e f : Event) (out new : List ℕ) (w : Written) (r : ℕ) → f ≡ e → r ≡ givesBack w → (w ≡ writtenOf f out) × (new ≡ leftOf f out)
+    → (r ≡ givesBack (writtenOf e out)) × (new ≡ leftOf e out)
 passed-as e f out new w r g h p = numbered-as e out new w r h (matched-as e f out new w (sym g) p)
 
 pub opening-made : (role flags : ℕ) (own own′ : Number) → own ≡ own′ → Opening role flags own ≡ Opening role flags own′

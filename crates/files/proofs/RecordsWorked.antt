@@ -18,7 +18,7 @@ use Rattle.files.specs.Bodies.{recordOf}
 use Rattle.files.specs.Bytes.{leAt, leOf}
 use Rattle.files.specs.Fields.{sizeOf, valuesAt, bytesOf}
 use Rattle.files.specs.Frames.{lengthOf, frameOf, frameAt}
-use Rattle.files.specs.Write.{numberWith, writtenOf, leftOf}
+use Rattle.files.specs.Write.{writtenOf, leftOf, givesBack, numberWith}
 use Rattle.files.specs.declared.Read.{Read}
 use Rattle.files.specs.declared.Written.the-variants.{Whole, BadField, NoRoom}
 
@@ -146,37 +146,48 @@ unfolding writtenOf leftOf recordOf headOf bytesOf sizeOf leOf ifLt ifSo
 expiry-written = (refl, refl, refl, refl, refl)
 
 -- a day and a second is 3, in room enough and in none: 3 comes before 8
-time-refused : (writtenOf (Time 86401) (9 ∷ 9 ∷ 9 ∷ 9 ∷ 9 ∷ 9 ∷ 9 ∷ 9 ∷ []) ≡ BadField)
+time-refused : (writtenOf (Time 86401) (9 ∷ 9 ∷ 9 ∷ 9 ∷ 9 ∷ 9 ∷ 9 ∷ 9 ∷ []) ≡ BadField 1)
     × (leftOf (Time 86401) (9 ∷ 9 ∷ 9 ∷ 9 ∷ 9 ∷ 9 ∷ 9 ∷ 9 ∷ []) ≡ 9 ∷ 9 ∷ 9 ∷ 9 ∷ 9 ∷ 9 ∷ 9 ∷ 9 ∷ [])
-    × (writtenOf (Time 86401) [] ≡ BadField)
+    × (writtenOf (Time 86401) [] ≡ BadField 1)
     × (writtenOf (Time 86400) [] ≡ NoRoom)
 unfolding writtenOf leftOf recordOf headOf bytesOf sizeOf leOf ifLt ifSo
 time-refused = (refl, refl, refl, refl)
 
 -- out of range: a number or a Duration that the parts do not name; part 4 without part 2; an unknown component; an error with no place
 -- for one; an own number of no digits
-fields-refused : (writtenOf (message 5 0 (Absent 0) 0 own absent 0) [] ≡ BadField)
-    × (writtenOf (message 5 0 (Absent 0) 16 own absent 1) [] ≡ BadField)
-    × (writtenOf (message 5 0 (Absent 0) 4 absent absent 0) [] ≡ BadField)
-    × (writtenOf (message 5 0 (Unknown 5 0) 0 absent absent 0) [] ≡ BadField)
-    × (writtenOf (message 5 0 (Reject 1) 0 absent absent 0) [] ≡ BadField)
-    × (writtenOf (FromAccess 1 12) [] ≡ BadField)
-    × (writtenOf (Opening 0 0 absent) [] ≡ BadField)
+fields-refused : (writtenOf (message 5 0 (Absent 0) 0 own absent 0) [] ≡ BadField 5)
+    × (writtenOf (message 5 0 (Absent 0) 16 own absent 1) [] ≡ BadField 5)
+    × (writtenOf (message 5 0 (Absent 0) 4 absent absent 0) [] ≡ BadField 5)
+    × (writtenOf (message 5 0 (Unknown 5 0) 0 absent absent 0) [] ≡ BadField 3)
+    × (writtenOf (message 5 0 (Reject 1) 0 absent absent 0) [] ≡ BadField 4)
+    × (writtenOf (FromAccess 1 12) [] ≡ BadField 2)
+    × (writtenOf (Opening 0 0 absent) [] ≡ BadField 3)
 unfolding message own writtenOf ifSo
 fields-refused = (refl, refl, refl, refl, refl, refl, refl)
 
 -- a number of no digits that says it is international, whether a number is wanted there or not; and a count that is no number of digits
-digitless-refused : (writtenOf (Opening 0 0 digitless) [] ≡ BadField)
-    × (writtenOf (Ask 0 digitless) [] ≡ BadField)
-    × (writtenOf (Ask 2 digitless) [] ≡ BadField)
+digitless-refused : (writtenOf (Opening 0 0 digitless) [] ≡ BadField 3)
+    × (writtenOf (Ask 0 digitless) [] ≡ BadField 2)
+    × (writtenOf (Ask 2 digitless) [] ≡ BadField 2)
     × (writtenOf (Ask 2 absent) [] ≡ NoRoom)
-    × (writtenOf (message 5 0 (Absent 0) 0 digitless absent 0) [] ≡ BadField)
-    × (writtenOf (message 5 0 (Absent 0) 0 absent digitless 0) [] ≡ BadField)
-    × (writtenOf (message 5 0 (Absent 0) 16 digitless absent 0) [] ≡ BadField)
-    × (writtenOf (message 5 0 (Absent 0) 32 absent digitless 0) [] ≡ BadField)
-    × (writtenOf (Ask 0 (record { nature = National; count = 135; value = 5550123 })) [] ≡ BadField)
+    × (writtenOf (message 5 0 (Absent 0) 0 digitless absent 0) [] ≡ BadField 5)
+    × (writtenOf (message 5 0 (Absent 0) 0 absent digitless 0) [] ≡ BadField 5)
+    × (writtenOf (message 5 0 (Absent 0) 16 digitless absent 0) [] ≡ BadField 6)
+    × (writtenOf (message 5 0 (Absent 0) 32 absent digitless 0) [] ≡ BadField 6)
+    × (writtenOf (Ask 0 (record { nature = National; count = 135; value = 5550123 })) [] ≡ BadField 2)
 unfolding message digitless writtenOf recordOf headOf bytesOf sizeOf leOf ifLt ifSo
 digitless-refused = (refl, refl, refl, refl, refl, refl, refl, refl, refl)
+
+-- the first of several is told: every field of an opening and of a message, then the called number behind a good calling one. What a host
+-- in C is given has the ordinal above the number
+first-refused : (writtenOf (Opening 2 32 digitless) [] ≡ BadField 1)
+    × (writtenOf (Opening 1 32 digitless) [] ≡ BadField 2)
+    × (writtenOf (message 6 128 (Unknown 5 0) 4 digitless digitless 1) [] ≡ BadField 1)
+    × (writtenOf (message 5 128 (Unknown 5 0) 4 digitless digitless 1) [] ≡ BadField 2)
+    × (writtenOf (message 5 0 (Absent 0) 48 own digitless 0) [] ≡ BadField 7)
+    × (givesBack (writtenOf (message 5 0 (Absent 0) 48 own digitless 0) []) ≡ 1795)
+unfolding message own digitless writtenOf ifSo
+first-refused = (refl, refl, refl, refl, refl, refl)
 
 -- in range, whatever a row would say: any Duration of 4 bytes, any error
 fields-in-range : (writtenOf (message 5 0 (Error 255) 64 absent absent 4294967295) [] ≡ NoRoom) × (writtenOf (FromAccess 2 255) [] ≡ NoRoom)

@@ -12,7 +12,7 @@ use Rattle.files.specs.Bodies.{readAt}
 use Rattle.files.specs.Fit.{answers, leaves}
 use Rattle.files.specs.Places.{placeAfter}
 use Rattle.files.specs.Words.{Says}
-use Rattle.files.specs.Write.{writtenOf, leftOf, numberOf}
+use Rattle.files.specs.Write.{writtenOf, leftOf, givesBack}
 use Rattle.files.specs.declared.Read.{Read}
 use Rattle.files.specs.declared.Reader.{Reader}
 use Rattle.files.specs.declared.Written.{Written}
@@ -59,9 +59,9 @@ moved-same before p q = (same (p .0) (q .0), reader-is (same (p .1) (q .1)) (sam
 abbrev pub Wrote : Event → List ℕ → Written → List ℕ → Type 0
 Wrote e old w new = (w ≡ writtenOf e old) × (new ≡ leftOf e old)
 
--- What the `rev_write_` functions say of their event: the number of that answer, and the same bytes.
+-- What the `rev_write_` functions say of their event: the number and the ordinal of that answer, and the same bytes.
 abbrev pub Numbered : Event → List ℕ → ℕ → List ℕ → Type 0
-Numbered e old r new = (r ≡ numberOf (writtenOf e old)) × (new ≡ leftOf e old)
+Numbered e old r new = (r ≡ givesBack (writtenOf e old)) × (new ≡ leftOf e old)
 
 -- For one event and one buffer there is one answer, one number, and one content of the buffer after it.
 pub wrote-same : (e : Event) (old : List ℕ) {w w′ : Written} {new new′ : List ℕ} →

@@ -38,7 +38,7 @@ use Rattle.files.specs.Messages.{numberText}
 use Rattle.files.specs.Shown.{whole, contentsOf, eventsOf, Shown, shownOf}
 use Rattle.files.specs.Typed.{AllBytes, TypedNumber, Typed, Writable, fileOf}
 use Rattle.files.specs.Words.{numberWord}
-use Rattle.files.specs.Write.{writtenOf, leftOf, numberOf, bytesWritten, numberWith, messageWith}
+use Rattle.files.specs.Write.{writtenOf, leftOf, numberOf, bytesWritten, givesBack, numberWith, messageWith}
 use Rattle.files.specs.declared.Read.{Read}
 use Rattle.files.specs.declared.Written.{Written}
 use Rattle.files.specs.declared.Written.the-variants.{Whole}
@@ -99,14 +99,14 @@ dump-eight = Eight.dump-eight
 -- ---- A record and its event (02 #102). `Typed`: the fields of an event are numbers of their types; `AllBytes`: every byte of a file is below
 -- 256. The events and files of a program are so.
 
--- What a host gets by the contract of each writer: 3 exactly where a field is out of range, 8 exactly where the fields are in range and
--- the record is longer than the room, else 0; on a refusal every byte as it was; on 0 the record, which states its length and is read as
--- the event, and the old bytes.
+-- What a host gets by the contract of each writer: 3 exactly where a field is out of range, and with it the ordinal of the first that is
+-- (02 #106), 8 exactly where the fields are in range and the record is longer than the room, else 0; on a refusal every byte as it was; on
+-- 0 the record, which states its length and is read as the event, and the old bytes.
 pub host-writes : (e : Event) (old : List ℕ) (r : ℕ) (new : List ℕ) → Numbered e old r new → Writes e old r new
 host-writes = HostWrites.host-writes
 
 pub event-written : (e : Event) (old : List ℕ) (w : Written) (new : List ℕ) → Wrote e old w new →
-    Writes e old (numberOf w) new × (numberOf w ≡ 0 → bytesWritten w ≡ length (recordOf e))
+    Writes e old (givesBack w) new × (numberOf w ≡ 0 → bytesWritten w ≡ length (recordOf e))
 event-written = HostWrites.event-written
 
 -- What the writer writes, the reader gives back: at any place, whatever stands before and behind it.

@@ -95,7 +95,7 @@ unfolding recordOf sizeOf bytesOf
 asked-bytes a = refl
 
 asked-ok : (a : Number) → numberThere a ≡ true → eventOk (Ask 0 a) ≡ true
-asked-ok a p = ap (λ (t : Bool). t || false) p
+asked-ok a p = ap (λ (t : Bool). (t || false) && true) p
 
 pub bytes-apart : (a b : Number) → numberThere a ≡ true → numberThere b ≡ true
     → (bytesOf (numberFields 1) (numberValues a) ≡ bytesOf (numberFields 1) (numberValues b)) ↔ (sameNumber a b ≡ true)

@@ -1,12 +1,13 @@
 -- The writer of events: what it answers, and what the lent buffer then holds. 02 #102: "A field out of range is refused with the lent
--- buffer unchanged, and so is a record longer than the room in it. Refusals: 3, then 8."
+-- buffer unchanged, and so is a record longer than the room in it. Refusals: 3, then 8." 02 #106: "Where 3 is told, give the field's ordinal
+-- in the body as well, first bad field first".
 -- Assumes nothing.
 use mathlib.Core.Bool.{Bool, true, false}
 use mathlib.Core.List.{List, _++_}
-use Prim.Native.Nat.{ℕ}
+use Prim.Native.Nat.{ℕ, _+_, _*_}
 use lib.ListN.{length, drop}
 use Rattle.text.specs.Choose.{ifLt, ifSo}
-use Rattle.rows.specs.Valid.{eventOk}
+use Rattle.rows.specs.Valid.{eventOk, badFieldOf}
 use Rattle.rows.specs.declared.Event.{Event}
 use Rattle.rows.specs.declared.Event.the-variants.{Received}
 use Rattle.rows.specs.declared.Nature.{Nature}
@@ -18,22 +19,31 @@ use Rattle.files.specs.declared.Written.the-variants.{Whole, BadField, N
 
 -- the whole record with its length, or why it was not written: the fields are judged first
 unfoldable pub writtenOf : Event → List ℕ → Written
-writtenOf e out = ifSo (eventOk e) (ifLt (length out) (length (recordOf e)) NoRoom (Whole (length (recordOf e)))) BadField
+writtenOf e out = ifSo (eventOk e) (ifLt (length out) (length (recordOf e)) NoRoom (Whole (length (recordOf e)))) (BadField (badFieldOf e))
 
 -- the record, then the bytes that stood there; on a refusal every byte as it was
 unfoldable pub leftOf : Event → List ℕ → List ℕ
 leftOf e out = ifSo (eventOk e) (ifLt (length out) (length (recordOf e)) out (recordOf e ++ drop (length (recordOf e)) out)) out
 
--- the number of each answer, and how many bytes it wrote
+-- the number of each answer, the ordinal of the field that it tells, which is 0 beside every number but 3, and how many bytes it wrote
 abbrev pub numberOf : Written → ℕ
 numberOf (Whole n) = 0
-numberOf BadField = 3
+numberOf (BadField k) = 3
 numberOf NoRoom = 8
+
+abbrev pub fieldOf : Written → ℕ
+fieldOf (Whole n) = 0
+fieldOf (BadField k) = k
+fieldOf NoRoom = 0
 
 abbrev pub bytesWritten : Written → ℕ
 bytesWritten (Whole n) = n
-bytesWritten BadField = 0
+bytesWritten (BadField k) = 0
 bytesWritten NoRoom = 0
+
+-- what a host in C is given back: number and ordinal in one
+abbrev pub givesBack : Written → ℕ
+givesBack w = numberOf w + 256 * fieldOf w
 
 -- ---- a host in C passes numbers
 

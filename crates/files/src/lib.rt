@@ -66,10 +66,11 @@ pub struct Reader<'a> {
     pub at: usize,
 }
 
-// What the writer of events answers: it wrote a whole record, of so many bytes; or why it wrote nothing.
+// What the writer of events answers: it wrote a whole record, of so many bytes; or why it wrote nothing, of a field out of its range
+// the ordinal in the body, from 1.
 pub enum Written {
     Whole(usize),
-    BadField,
+    BadField(u8),
     NoRoom,
 }
 

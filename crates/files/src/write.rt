@@ -11,7 +11,7 @@ ghost use Rattle.files.specs.Bodies.{countByte, codeOf, itemOf, numberVa
 ghost use Rattle.files.specs.Bytes.{leOf, part};
 ghost use Rattle.files.specs.Fields.{numberFields, frontFields, carriedFields, bytesOf};
 ghost use Rattle.files.specs.Frames.{lengthOf};
-ghost use Rattle.files.specs.Write.{writtenOf, leftOf, numberOf, natureWith, numberWith, messageWith};
+ghost use Rattle.files.specs.Write.{writtenOf, leftOf, givesBack, natureWith, numberWith, messageWith};
 use crate::Written;
 use crate::bodies::component_of;
 use crate::frames::length_of;
@@ -240,51 +240,55 @@ fn write_opening(role: u8, flags: u8, own: Number, out: &mut [u8]) -> Written
     ensures { λ w. ⌜ (w ≡ writtenOf (Opening role flags own) (now (out .entry)))
         × (now (out .exit) ≡ leftOf (Opening role flags own) (now (out .entry))) ⌝ }
 {
-    if rows::opening_ok(role, flags, own) {
+    let field = rows::opening_bad(role, flags, own);
+    if field == 0 {
         if out.len() < 15 {
             return Written::NoRoom;
         }
         return Written::Whole(put_opening(out, role, flags, own));
     }
-    Written::BadField
+    Written::BadField(field)
 }
 
 fn write_ask(item: u8, called: Number, out: &mut [u8]) -> Written
     ensures { λ w. ⌜ (w ≡ writtenOf (Ask item called) (now (out .entry)))
         × (now (out .exit) ≡ leftOf (Ask item called) (now (out .entry))) ⌝ }
 {
-    if rows::ask_ok(item, called) {
+    let field = rows::ask_bad(item, called);
+    if field == 0 {
         if out.len() < 14 {
             return Written::NoRoom;
         }
         return Written::Whole(put_ask(out, item, called));
     }
-    Written::BadField
+    Written::BadField(field)
 }
 
 fn write_message(m: Message, out: &mut [u8]) -> Written
     ensures { λ w. ⌜ (w ≡ writtenOf (Received m) (now (out .entry))) × (now (out .exit) ≡ leftOf (Received m) (now (out .entry))) ⌝ }
 {
-    if rows::message_ok(m) {
+    let field = rows::message_bad(m);
+    if field == 0 {
         if out.len() < message_size(m.parts) {
             return Written::NoRoom;
         }
         return Written::Whole(put_message(out, m));
     }
-    Written::BadField
+    Written::BadField(field)
 }
 
 fn write_access(item: u8, error: u8, out: &mut [u8]) -> Written
     ensures { λ w. ⌜ (w ≡ writtenOf (FromAccess item error) (now (out .entry)))
         × (now (out .exit) ≡ leftOf (FromAccess item error) (now (out .entry))) ⌝ }
 {
-    if rows::access_ok(item, error) {
+    let field = rows::access_bad(item, error);
+    if field == 0 {
         if out.len() < 6 {
             return Written::NoRoom;
         }
         return Written::Whole(put_access(out, item, error));
     }
-    Written::BadField
+    Written::BadField(field)
 }
 
 fn write_expiry(out: &mut [u8]) -> Written
@@ -299,13 +303,14 @@ fn write_expiry(out: &mut [u8]) -> Written
 fn write_time(seconds: u32, out: &mut [u8]) -> Written
     ensures { λ w. ⌜ (w ≡ writtenOf (Time seconds) (now (out .entry))) × (now (out .exit) ≡ leftOf (Time seconds) (now (out .entry))) ⌝ }
 {
-    if rows::time_ok(seconds) {
+    let field = rows::time_bad(seconds);
+    if field == 0 {
         if out.len() < 8 {
             return Written::NoRoom;
         }
         return Written::Whole(put_time(out, seconds));
     }
-    Written::BadField
+    Written::BadField(field)
 }
 
 // ---- For hosts
@@ -324,13 +329,13 @@ pub fn write_event(e: Event, out: &mut [u8]) -> Written
     }
 }
 
-// The number of an answer: 0, 3 or 8.
-fn number_of(w: Written) -> u32
-    ensures { λ r. ⌜ r ≡ numberOf w ⌝ }
+// An answer as a host in C is given it: 0, 8, or 3 with the field's ordinal above it.
+fn gives_back(w: Written) -> u32
+    ensures { λ r. ⌜ r ≡ givesBack w ⌝ }
 {
     match w {
         Written::Whole(_) => 0,
-        Written::BadField => 3,
+        Written::BadField(field) => 3 + 256 * field as u32,
         Written::NoRoom => 8,
     }
 }
@@ -356,7 +361,7 @@ fn number_with(international: bool, count: u8, value: u64) -> Number
     }
 }
 
-// Each kind for a host in C. What they give is the number; the length stands in the record's first two bytes.
+// Each kind for a host in C. What they give is the number and the ordinal; the length stands in the record's first two bytes.
 #[no_mangle]
 pub extern "C" fn rev_write_opening(
     role: u8,
@@ -366,11 +371,11 @@ pub extern "C" fn rev_write_opening(
     value: u64,
     out: &mut [u8],
 ) -> u32
-    ensures { λ r. ⌜ (r ≡ numberOf (writtenOf (Opening role flags (numberWith international count value)) (now (out .entry))))
+    ensures { λ r. ⌜ (r ≡ givesBack (writtenOf (Opening role flags (numberWith international count value)) (now (out .entry))))
         × (now (out .exit) ≡ leftOf (Opening role flags (numberWith international count value)) (now (out .entry))) ⌝ }
 {
     let own = number_with(international, count, value);
-    number_of(write_opening(role, flags, own, out))
+    gives_back(write_opening(role, flags, own, out))
 }
 
 #[no_mangle]
@@ -381,11 +386,11 @@ pub extern "C" fn rev_write_request(
     value: u64,
     out: &mut [u8],
 ) -> u32
-    ensures { λ r. ⌜ (r ≡ numberOf (writtenOf (Ask request (numberWith international count value)) (now (out .entry))))
+    ensures { λ r. ⌜ (r ≡ givesBack (writtenOf (Ask request (numberWith international count value)) (now (out .entry))))
         × (now (out .exit) ≡ leftOf (Ask request (numberWith international count value)) (now (out .entry))) ⌝ }
 {
     let called = number_with(international, count, value);
-    number_of(write_ask(request, called, out))
+    gives_back(write_ask(request, called, out))
 }
 
 #[no_mangle]
@@ -404,7 +409,7 @@ pub extern "C" fn rev_write_message(
     duration: u32,
     out: &mut [u8],
 ) -> u32
-    ensures { λ r. ⌜ (r ≡ numberOf (writtenOf
+    ensures { λ r. ⌜ (r ≡ givesBack (writtenOf
         (messageWith message cause component item parts
         (numberWith callinginternational callingcount callingvalue)
         (numberWith calledinternational calledcount calledvalue) duration)
@@ -427,30 +432,30 @@ pub extern "C" fn rev_write_message(
         called,
         duration,
     };
-    number_of(write_message(m, out))
+    gives_back(write_message(m, out))
 }
 
 #[no_mangle]
 pub extern "C" fn rev_write_access(told: u8, error: u8, out: &mut [u8]) -> u32
-    ensures { λ r. ⌜ (r ≡ numberOf (writtenOf (FromAccess told error) (now (out .entry))))
+    ensures { λ r. ⌜ (r ≡ givesBack (writtenOf (FromAccess told error) (now (out .entry))))
         × (now (out .exit) ≡ leftOf (FromAccess told error) (now (out .entry))) ⌝ }
 {
-    number_of(write_access(told, error, out))
+    gives_back(write_access(told, error, out))
 }
 
 #[no_mangle]
 pub extern "C" fn rev_write_expiry(out: &mut [u8]) -> u32
-    ensures { λ r. ⌜ (r ≡ numberOf (writtenOf Expiry (now (out .entry)))) × (now (out .exit) ≡ leftOf Expiry (now (out .entry))) ⌝ }
+    ensures { λ r. ⌜ (r ≡ givesBack (writtenOf Expiry (now (out .entry)))) × (now (out .exit) ≡ leftOf Expiry (now (out .entry))) ⌝ }
 {
-    number_of(write_expiry(out))
+    gives_back(write_expiry(out))
 }
 
 #[no_mangle]
 pub extern "C" fn rev_write_time(seconds: u32, out: &mut [u8]) -> u32
-    ensures { λ r. ⌜ (r ≡ numberOf (writtenOf (Time seconds) (now (out .entry))))
+    ensures { λ r. ⌜ (r ≡ givesBack (writtenOf (Time seconds) (now (out .entry))))
         × (now (out .exit) ≡ leftOf (Time seconds) (now (out .entry))) ⌝ }
 {
-    number_of(write_time(seconds, out))
+    gives_back(write_time(seconds, out))
 }
 
 // Whether two telephone numbers are the same.

@@ -1,6 +1,5 @@
 -- What the functions on entries gave is what the definitions say: sizes, one entry, and the entries of several components.
 -- Assumes nothing.
-use mathlib.Core.Bool.{Bool, true, false, _&&_}
 use mathlib.Core.Path.{_≡_, refl, sym, ap, subst, _∙_}
 use mathlib.Core.List.{List, [], _∷_, _++_, append-nil}
 use Prim.Native.Nat.{ℕ, zero, suc, _+_, _-_, _*_, _^_, _≤_, _<_}
@@ -9,14 +8,14 @@ use native.Mathlib.Omega.{arith}
 use lib.ListN.{length, take, drop, set, length-append, length-drop}
 use lib.Seq.{sets, sets-eq, length-sets, take-all}
 use Rattle.text.specs.Text.{Put}
-use Rattle.text.proofs.Cases.{yes-so, no-so, both-so, yes-lt, no-lt, both-lt}
+use Rattle.text.proofs.Cases.{yes-eq, no-eq, both-eq, yes-lt, no-lt, both-lt}
 use Rattle.text.proofs.Laws.{put-after, put-before, put-length, put-as}
 use Rattle.files.specs.Bodies.{recordOf}
 use Rattle.files.specs.Bytes.{leOf}
 use Rattle.files.specs.Frames.{lengthOf}
 use Rattle.files.proofs.BothWays.{record-length}
 use Rattle.files.proofs.Puts.{message-length, message-sized}
-use Rattle.rows.specs.Valid.{messageOk}
+use Rattle.rows.specs.Valid.{badFieldOf}
 use Rattle.rows.specs.declared.Event.{Event}
 use Rattle.rows.specs.declared.Event.the-variants.{Received}
 use Rattle.rows.specs.declared.Message.{Message}
@@ -27,11 +26,11 @@ use Rattle.wire.specs.declared.Component.{Component}
 use Rattle.wire.proofs.Fits.{FitsAll, FitsHeld}
 use Rattle.wire.proofs.Places.{Placed, component-placed}
 use Rattle.wire.proofs.Walks.{read-on, walk-end, walk-on}
-use Rattle.peers.specs.Entries.{withRest, givesOf, leavesOf, entryOf, orNone, entriesOf, carrierOk, rangedOf, readGives, readLeaves}
+use Rattle.peers.specs.Entries.{withRest, givesOf, leavesOf, entryOf, orNone, entriesOf, carrierBad, firstBad, readGives, readLeaves}
 use Rattle.peers.specs.Entries.{endedOf, keptOf, Keeps, KeptWithin}
-use Rattle.peers.specs.Messages.{heardOf, receivedOf}
+use Rattle.peers.specs.Messages.{heardOf, receivedOf, noComponent}
 use Rattle.peers.specs.declared.Kept.{Kept}
-use Rattle.peers.proofs.Ranges.{fits-ranged}
+use Rattle.peers.proofs.Ranges.{fits-ranged, none-ranged, carrier-small}
 
 -- ---- sizes
 
@@ -91,38 +90,38 @@ entry-as l₀ l₁ l₂ at to n id m p h q =
 -- ---- what is given and left of a text
 
 -- the number given back, and the bytes that the buffer then holds
-abbrev pub Gave : Bool → List ℕ → List ℕ → ℕ → List ℕ → Type 0
-Gave ok t out r new = (r ≡ givesOf ok t out) × (new ≡ leavesOf ok t out)
+abbrev pub Gave : ℕ → List ℕ → List ℕ → ℕ → List ℕ → Type 0
+Gave bad t out r new = (r ≡ givesOf bad t out) × (new ≡ leavesOf bad t out)
 
 -- of these components
 abbrev pub GaveAll : ℕ → ℕ → List Component → List ℕ → ℕ → List ℕ → Type 0
-GaveAll message cause cs out r new = Gave (rangedOf message cause cs) (entriesOf message cause cs) out r new
+GaveAll message cause cs out r new = Gave (firstBad message cause cs) (entriesOf message cause cs) out r new
 
-module _ (ok : Bool) (t out : List ℕ) where
-  pub gives-bad : ok ≡ false → Gave ok t out 3 out
+module _ (bad : ℕ) (t out : List ℕ) where
+  pub gives-bad : (r : ℕ) → (bad ≡ 0 → ⊥) → r ≡ withRest 3 bad → Gave bad t out r out
   unfolding givesOf leavesOf
-  gives-bad h = (no-so _ _ _ _ h refl, no-so _ _ _ _ h refl)
+  gives-bad r h e = (no-eq _ _ _ _ _ h e, no-eq _ _ _ _ _ h refl)
 
-  module _ (n : ℕ) (h : ok ≡ true) (e : n ≡ length t) where
-    pub gives-full : length out < n → Gave ok t out 8 out
+  module _ (n : ℕ) (h : bad ≡ 0) (e : n ≡ length t) where
+    pub gives-full : length out < n → Gave bad t out 8 out
     unfolding givesOf leavesOf
     gives-full g =
         let k : length out < length t = omega arith in
-        (yes-so _ _ _ _ h (yes-lt _ _ _ _ _ k refl), yes-so _ _ _ _ h (yes-lt _ _ _ _ _ k refl))
+        (yes-eq _ _ _ _ _ h (yes-lt _ _ _ _ _ k refl), yes-eq _ _ _ _ _ h (yes-lt _ _ _ _ _ k refl))
 
-    pub gives-whole : (r at : ℕ) (new : List ℕ) → n ≤ length out → r ≡ withRest 0 n → Put out 0 t new at → Gave ok t out r new
+    pub gives-whole : (r at : ℕ) (new : List ℕ) → n ≤ length out → r ≡ withRest 0 n → Put out 0 t new at → Gave bad t out r new
     unfolding givesOf leavesOf
     gives-whole r at new g f p =
         let k : length t ≤ length out = omega arith in
         let b : new ≡ t ++ drop (length t) out =
         p .bytes ∙ sets-eq t out 0 (omega arith) ∙ ap (λ (i : ℕ). t ++ drop i out) (zero-add (length t)) in
-        (yes-so _ _ _ _ h (no-lt _ _ _ _ _ k (f ∙ ap (withRest 0) e)), yes-so _ _ _ _ h (no-lt _ _ _ _ _ k b))
+        (yes-eq _ _ _ _ _ h (no-lt _ _ _ _ _ k (f ∙ ap (withRest 0) e)), yes-eq _ _ _ _ _ h (no-lt _ _ _ _ _ k b))
 
 -- ---- what was read is in range
 
--- an event of it is in range exactly if the kind and cause of the message that carried it are
+-- of an event of it no field is out of range but the kind and the cause of the message that carried it
 abbrev pub Carried : ℕ → ℕ → Component → Type 0
-Carried message cause c = messageOk (heardOf message cause c) ≡ carrierOk message cause
+Carried message cause c = badFieldOf (Received (heardOf message cause c)) ≡ carrierBad message cause
 
 abbrev CarriedAll : ℕ → ℕ → List Component → Type 0
 CarriedAll message cause [] = Unit {0}
@@ -132,21 +131,23 @@ all-carried : (message cause : ℕ) (cs : List Component) → FitsAll cs → Car
 all-carried message cause [] f = tt
 all-carried message cause (c ∷ cs) (f, fs) = (fits-ranged message cause c f, all-carried message cause cs fs)
 
-ranged-true : (message cause : ℕ) (cs : List Component) → CarriedAll message cause cs → carrierOk message cause ≡ true
-    → rangedOf message cause cs ≡ true
-unfolding rangedOf receivedOf
+ranged-true : (message cause : ℕ) (cs : List Component) → CarriedAll message cause cs → carrierBad message cause ≡ 0
+    → firstBad message cause cs ≡ 0
+unfolding firstBad receivedOf
 ranged-true message cause [] f e = refl
-ranged-true message cause (c ∷ cs) (f, fs) e =
-    ap (λ (b : Bool). b && rangedOf message cause cs) (f ∙ e) ∙ ranged-true message cause cs fs e
+ranged-true message cause (c ∷ cs) (f, fs) e = sym (yes-eq _ _ _ _ _ (f ∙ e) (sym (ranged-true message cause cs fs e)))
 
 ranged-all : (message cause : ℕ) (c : Component) (cs : List Component) → Carried message cause c → CarriedAll message cause cs
-    → rangedOf message cause (c ∷ cs) ≡ carrierOk message cause
-unfolding rangedOf receivedOf
-ranged-all message cause c cs f fs = ap (λ (b : Bool). b && rangedOf message cause cs) f ∙ by (carrierOk message cause) refl
-  where
-    by : (b : Bool) → carrierOk message cause ≡ b → (b && rangedOf message cause cs) ≡ b
-    by true e = ranged-true message cause cs fs e
-    by false e = refl
+    → firstBad message cause (c ∷ cs) ≡ carrierBad message cause
+unfolding firstBad receivedOf
+ranged-all message cause c cs f fs =
+    both-eq (badFieldOf (Received (heardOf message cause c))) 0 (λ (z : ℕ). z ≡ carrierBad message cause) _ _
+    (λ e. ranged-true message cause cs fs (sym f ∙ e) ∙ sym (sym f ∙ e)) (λ _. f)
+
+pub fits-first-bad : (message cause : ℕ) (cs : List Component) → FitsAll cs → firstBad message cause (orNone cs) ≡ carrierBad message cause
+unfolding orNone
+fits-first-bad message cause [] f = ranged-all message cause noComponent [] (none-ranged message cause) tt
+fits-first-bad message cause (c ∷ cs) (f, fs) = ranged-all message cause c cs (fits-ranged message cause c f) (all-carried message cause cs fs)
 
 -- ---- one component
 
@@ -160,14 +161,14 @@ pub reads-all : (message cause : ℕ) (c : Component) (cs : List Component) (out
 unfolding readGives readLeaves orNone
 reads-all message cause c cs out r new g = g
 
-module _ (message cause : ℕ) (c : Component) (out : List ℕ) (f : Carried message cause c) (ok : Bool) (k : ok ≡ carrierOk message cause) where
-  ranged-one : ok ≡ rangedOf message cause (c ∷ [])
+module _ (message cause : ℕ) (c : Component) (out : List ℕ) (f : Carried message cause c) (bad : ℕ) (k : bad ≡ carrierBad message cause) where
+  ranged-one : bad ≡ firstBad message cause (c ∷ [])
   ranged-one = k ∙ sym (ranged-all message cause c [] f tt)
 
-  pub one-bad : ok ≡ false → Reads message cause (holds (c ∷ [])) out 3 out
-  one-bad h = reads-all message cause c [] out 3 out (gives-bad _ _ out (sym ranged-one ∙ h))
+  pub one-bad : (r : ℕ) → (bad ≡ 0 → ⊥) → r ≡ withRest 3 bad → Reads message cause (holds (c ∷ [])) out r out
+  one-bad r h g = reads-all message cause c [] out r out (gives-bad _ _ out r (λ z. h (ranged-one ∙ z)) (g ∙ ap (withRest 3) ranged-one))
 
-  module _ (m : Message) (e : m ≡ heardOf message cause c) (n : ℕ) (h : ok ≡ true) (g : n ≡ 2 + length (recordOf (Received m))) where
+  module _ (m : Message) (e : m ≡ heardOf message cause c) (n : ℕ) (h : bad ≡ 0) (g : n ≡ 2 + length (recordOf (Received m))) where
     entries-one : entryOf (c .id) (Received m) ≡ entriesOf message cause (c ∷ [])
     unfolding entriesOf receivedOf
     entries-one = ap (λ (x : Message). entryOf (c .id) (Received x)) e ∙ sym (append-nil _)
@@ -213,32 +214,32 @@ unfolding Keeps
 keeps-length message cause (refused n place) old from k new (_, e) = ap length e
 keeps-length message cause (holds cs) old from k new (_, e) = ap length e ∙ kept-length k old from (entriesOf message cause cs)
 
-module _ (ok b : Bool) (room to : ℕ) (e : b ≡ ok) where
-  pub ended-bad : b ≡ false → Kept.Refused 3 0 ≡ endedOf ok room to
+module _ (bad b : ℕ) (room to : ℕ) (e : b ≡ bad) where
+  pub ended-bad : (b ≡ 0 → ⊥) → Kept.Refused 3 b ≡ endedOf bad room to
   unfolding endedOf
-  ended-bad h = no-so _ _ _ _ (sym e ∙ h) refl
+  ended-bad h = no-eq _ _ _ _ _ (λ z. h (e ∙ z)) (ap (Kept.Refused 3) e)
 
-  module _ (h : b ≡ true) where
-    pub ended-full : room < to → Kept.Refused 8 0 ≡ endedOf ok room to
+  module _ (h : b ≡ 0) where
+    pub ended-full : room < to → Kept.Refused 8 0 ≡ endedOf bad room to
     unfolding endedOf
-    ended-full g = yes-so _ _ _ _ (sym e ∙ h) (yes-lt _ _ _ _ _ g refl)
+    ended-full g = yes-eq _ _ _ _ _ (sym e ∙ h) (yes-lt _ _ _ _ _ g refl)
 
-    pub ended-good : to ≤ room → Kept.All to ≡ endedOf ok room to
+    pub ended-good : to ≤ room → Kept.All to ≡ endedOf bad room to
     unfolding endedOf
-    ended-good g = yes-so _ _ _ _ (sym e ∙ h) (no-lt _ _ _ _ _ g refl)
+    ended-good g = yes-eq _ _ _ _ _ (sym e ∙ h) (no-lt _ _ _ _ _ g refl)
 
 -- where the entries end they have room
-ended-all : (ok : Bool) (room to end : ℕ) → Kept.All end ≡ endedOf ok room to → to ≤ room
+ended-all : (bad room to end : ℕ) → Kept.All end ≡ endedOf bad room to → to ≤ room
 unfolding endedOf
-ended-all ok room to end =
-    both-so ok (λ (z : Kept). Kept.All end ≡ z → to ≤ room) _ _
+ended-all bad room to end =
+    both-eq bad 0 (λ (z : Kept). Kept.All end ≡ z → to ≤ room) _ _
     (λ _. both-lt room to (λ (z : Kept). Kept.All end ≡ z → to ≤ room) _ _ (λ _ e. absurd (kept-differ _ _ _ (sym e))) (λ h _. h))
     (λ _ e. absurd (kept-differ _ _ _ (sym e)))
 
-ended-within : (ok : Bool) (room to : ℕ) → to ≤ 8481 → KeptWithin (endedOf ok room to)
+ended-within : (bad room to : ℕ) → bad ≤ 257 → to ≤ 8481 → KeptWithin (endedOf bad room to)
 unfolding endedOf KeptWithin
-ended-within ok room to h =
-    both-so ok KeptWithin _ _ (λ _. both-lt room to KeptWithin _ _ (λ _. omega arith) (λ _. h)) (λ _. omega arith)
+ended-within bad room to g h =
+    both-eq bad 0 KeptWithin _ _ (λ _. both-lt room to KeptWithin _ _ (λ _. omega arith) (λ _. h)) (λ _. g)
 
 -- an entry before those of p, which begin where it ends
 module _ (message cause : ℕ) (c : Component) (p : Parameter) (old new : List ℕ) (to from : ℕ) (k : Kept) (m : Message) (g : m ≡ heardOf message cause c)
@@ -263,7 +264,7 @@ module _ (message cause : ℕ) (c : Component) (p : Parameter) (old new : List �
       by : (q : Parameter) → Keeps message cause q old from k new → Keeps message cause (before c q) old to (Kept.Refused n rest) new
       by (refused x place) (e, d) = (sym f ∙ e, d)
       by (holds cs) (e, d) =
-          (sym f ∙ e ∙ ap (endedOf (carrierOk message cause) (length old)) (end-same cs), d ∙ ap (λ (x : Kept). keptOf x old from (entriesOf message cause cs)) f)
+          (sym f ∙ e ∙ ap (endedOf (carrierBad message cause) (length old)) (end-same cs), d ∙ ap (λ (x : Kept). keptOf x old from (entriesOf message cause cs)) f)
 
   pub before-room : (end : ℕ) → k ≡ Kept.All end → to + (2 + length (recordOf (Received m))) ≤ length new
   unfolding Keeps
@@ -286,18 +287,19 @@ module _ (message cause : ℕ) (c : Component) (p : Parameter) (old new : List �
       by (holds cs) (e, d) =
           let b : Put old from (entriesOf message cause cs) new (from + length (entriesOf message cause cs)) =
           record { bytes = d ∙ ap (λ (x : Kept). keptOf x old from (entriesOf message cause cs)) f; place = refl } in
-          (sym f ∙ e ∙ ap (endedOf (carrierOk message cause) (length old)) (end-same cs), put-before begin (put-as own q) b .bytes)
+          (sym f ∙ e ∙ ap (endedOf (carrierBad message cause) (length old)) (end-same cs), put-before begin (put-as own q) b .bytes)
 
 -- the components of s from a place on
 module _ (s : List ℕ) (at message cause : ℕ) (old : List ℕ) (to : ℕ) where
-  pub keep-end : (k : Kept) → length s ≤ at → at ≤ length s → length s ≤ 257 → to ≤ 33 * at → k ≡ endedOf (carrierOk message cause) (length old) to
+  pub keep-end : (k : Kept) → length s ≤ at → at ≤ length s → length s ≤ 257 → to ≤ 33 * at → k ≡ endedOf (carrierBad message cause) (length old) to
       → Keeps message cause (walkOf s at) old to k old × KeptWithin k
   unfolding entriesOf Keeps
   keep-end k h near few little e =
       let z : to ≡ to + 0 = omega arith in (
         subst (λ (p : Parameter). Keeps message cause p old to k old) (sym (walk-end s at h))
-            (e ∙ ap (endedOf (carrierOk message cause) (length old)) z, kept-nothing k old to),
-        subst KeptWithin (sym e) (ended-within (carrierOk message cause) (length old) to (omega arith)),
+            (e ∙ ap (endedOf (carrierBad message cause) (length old)) z, kept-nothing k old to),
+        subst KeptWithin (sym e)
+            (ended-within (carrierBad message cause) (length old) to (omega (arith, carrier-small message cause)) (omega arith)),
       )
 
   module _ (a : Answer) (h : at < length s) (e : a ≡ componentOf s at) where
@@ -343,17 +345,17 @@ small-all k to w e = let z : to ≤ 8481 = subst KeptWithin e w in omega arith
 
 -- ---- and all of them given
 
-ended-gave : (ok : Bool) (t old new : List ℕ) (k : Kept) (r : ℕ) → r ≡ asRest k → new ≡ keptOf k old 0 t → k ≡ endedOf ok (length old) (length t)
-    → Gave ok t old r new
+ended-gave : (bad : ℕ) (t old new : List ℕ) (k : Kept) (r : ℕ) → r ≡ asRest k → new ≡ keptOf k old 0 t → k ≡ endedOf bad (length old) (length t)
+    → Gave bad t old r new
 unfolding endedOf keptOf
-ended-gave ok t old new k r g d =
-    both-so ok (λ (z : Kept). k ≡ z → Gave ok t old r new) _ _
-    (λ h. both-lt (length old) (length t) (λ (z : Kept). k ≡ z → Gave ok t old r new) _ _
-    (λ l f. like _ _ (g ∙ ap asRest f) (d ∙ left f) (gives-full ok t old (length t) h refl l))
-    (λ l f. gives-whole ok t old (length t) h refl r (0 + length t) new l (g ∙ ap asRest f) (record { bytes = d ∙ left f; place = refl })))
-    (λ h f. like _ _ (g ∙ ap asRest f) (d ∙ left f) (gives-bad ok t old h))
+ended-gave bad t old new k r g d =
+    both-eq bad 0 (λ (z : Kept). k ≡ z → Gave bad t old r new) _ _
+    (λ h. both-lt (length old) (length t) (λ (z : Kept). k ≡ z → Gave bad t old r new) _ _
+    (λ l f. like _ _ (g ∙ ap asRest f) (d ∙ left f) (gives-full bad t old (length t) h refl l))
+    (λ l f. gives-whole bad t old (length t) h refl r (0 + length t) new l (g ∙ ap asRest f) (record { bytes = d ∙ left f; place = refl })))
+    (λ h f. like _ _ (g ∙ ap asRest f) (d ∙ left f) (gives-bad bad t old (withRest 3 bad) h refl))
   where
-    like : (x : ℕ) (y : List ℕ) → r ≡ x → new ≡ y → Gave ok t old x y → Gave ok t old r new
+    like : (x : ℕ) (y : List ℕ) → r ≡ x → new ≡ y → Gave bad t old x y → Gave bad t old r new
     like x y a b (u, v) = (a ∙ u, b ∙ v)
 
     left : {z : Kept} → k ≡ z → keptOf k old 0 t ≡ keptOf z old 0 t
@@ -364,8 +366,8 @@ pub several-given : (message cause : ℕ) (c : Component) (p : Parameter) (old n
 unfolding before readGives readLeaves Keeps
 several-given message cause c (refused n place) old new k r f fs (e, d) g = (g ∙ ap asRest e, d)
 several-given message cause c (holds cs) old new k r f fs (e, d) g =
-    let ok = carrierOk message cause in
+    let bad = carrierBad message cause in
     let t = entriesOf message cause (c ∷ cs) in
     reads-all message cause c cs old r new
-    (subst (λ (x : Bool). Gave x t old r new) (sym (ranged-all message cause c cs f (all-carried message cause cs fs)))
-    (ended-gave ok t old new k r g d (e ∙ ap (endedOf ok (length old)) (zero-add (length t)))))
+    (subst (λ (x : ℕ). Gave x t old r new) (sym (ranged-all message cause c cs f (all-carried message cause cs fs)))
+    (ended-gave bad t old new k r g d (e ∙ ap (endedOf bad (length old)) (zero-add (length t)))))

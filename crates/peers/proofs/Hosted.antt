@@ -1,34 +1,33 @@
 -- What the functions for C gave is what the definitions say.
 -- Assumes nothing.
-use mathlib.Core.Bool.{Bool, true, false, _&&_}
 use mathlib.Core.Path.{_≡_, refl, sym, ap, subst, _∙_}
 use mathlib.Core.List.{List, [], _∷_}
-use Prim.Native.Nat.{ℕ, _≤_, _<_, _^_}
+use mathlib.Core.Logic.{_⊎_, inl, inr, _↔_}
+use Prim.Native.Nat.{ℕ, _+_, _≤_, _<_, _^_}
 use native.Mathlib.Omega.{arith}
-use lib.Dec.{eqb, ltb}
 use lib.ListN.{length}
-use Rattle.text.specs.Choose.{ifSo, ifLt, ifEq}
-use Rattle.text.proofs.Cases.{both-lt, both-eq}
+use Rattle.text.proofs.Cases.{yes-eq, no-eq, both-eq, yes-lt, no-lt, both-lt}
 use Rattle.files.specs.declared.Read.{Read}
-use Rattle.rows.specs.Valid.{messageOk}
+use Rattle.rows.specs.Valid.{badFieldOf}
 use Rattle.rows.specs.declared.Event.{Event}
 use Rattle.rows.specs.declared.Event.the-variants.{Opening, Ask, Received, FromAccess, Expiry, Time}
 use Rattle.rows.specs.declared.Message.{Message}
 use Rattle.rows.specs.declared.Note.{Note}
 use Rattle.rows.specs.declared.Number.{Number}
 use Rattle.wire.specs.Grammar.{componentOf}
-use Rattle.wire.specs.Parameters.{Parameter, holds, before, onward, walkOf, framedOf, Bounded}
-use Rattle.wire.specs.Texts.{parameterText, writableOf}
+use Rattle.wire.specs.Parameters.{Parameter, holds, before, onward, walkOf, framedOf, parameterOf, Bounded}
+use Rattle.wire.specs.Texts.{parameterText}
+use Rattle.wire.specs.Writable.{badOf}
 use Rattle.wire.specs.Texts.{writtenOf as wireWritten, leavesOf as wireLeaves}
 use Rattle.wire.specs.declared.Answer.{Answer}
 use Rattle.wire.specs.declared.Component.{Component}
 use Rattle.wire.specs.declared.Frame.{Frame}
 use Rattle.wire.specs.declared.Written.{Written}
-use Rattle.wire.proofs.Fits.{read-fits}
+use Rattle.wire.proofs.Fits.{FitsHeld, read-fits, walk-fits}
 use Rattle.wire.proofs.Places.{Placed, component-placed, parameter-most}
 use Rattle.wire.proofs.Walks.{read-on, walk-end, walk-on, good-walk, bad-refused}
 use Rattle.peers.specs.Entries.{withRest, givesOf, leavesOf, orNone, readGives, readLeaves}
-use Rattle.peers.specs.Entries.{sendable, sentText, writeGives, writeLeaves}
+use Rattle.peers.specs.Entries.{nearest, inRecord, sentBad, sendGives, sendLeaves, writeGives, writeLeaves}
 use Rattle.peers.specs.Messages.{noComponent, carriedOf, sentOf}
 use Rattle.peers.proofs.Entered.{Gave, gives-bad, Carried, Reads}
 use Rattle.peers.proofs.Ranges.{fits-ranged, none-ranged}
@@ -50,6 +49,14 @@ module _ (s : List ℕ) (message cause : ℕ) (out : List ℕ) (f : Frame) (e : 
 
   pub framed-good : (r : ℕ) (new : List ℕ) → f ≡ Frame.Good → Reads message cause (walkOf s 3) out r new → Entered s message cause out r new
   framed-good r new g h = subst (λ (p : Parameter). Reads message cause p out r new) (sym (good-walk s (sym e ∙ g))) h
+
+-- what a parameter holds fits
+pub parameter-fits : (s : List ℕ) → FitsHeld (parameterOf s)
+parameter-fits s = by (framedOf s) refl
+  where
+    by : (f : Frame) → framedOf s ≡ f → FitsHeld (parameterOf s)
+    by (Frame.Bad n place) e = subst FitsHeld (sym (bad-refused s n place e)) tt
+    by Frame.Good e = subst FitsHeld (sym (good-walk s e)) (walk-fits s 3)
 
 pub none-carried : (message cause : ℕ) (c : Component) → c ≡ noComponent → Carried message cause c
 none-carried message cause c e = subst (Carried message cause) (sym e) (none-ranged message cause)
@@ -101,7 +108,7 @@ module _ (s : List ℕ) (message cause : ℕ) (out : List ℕ) where
 
 -- what the writer of `wire` says of a component
 abbrev Wrote : Component → List ℕ → Written → List ℕ → Type 0
-Wrote c out w new = (w ≡ wireWritten (writableOf c) (parameterText c) out) × (new ≡ wireLeaves (writableOf c) (parameterText c) out)
+Wrote c out w new = (w ≡ wireWritten (badOf c) (parameterText c) out) × (new ≡ wireLeaves (badOf c) (parameterText c) out)
 
 pub sent-as : (n : Note) (id : ℕ) (out new : List ℕ) (c : Component) (w : Written) → c ≡ sentOf n id → Wrote c out w new
     → Sent n id out w new
@@ -111,28 +118,38 @@ sent-as n id out new c w e f = subst (λ (x : Component). Wrote x out w new) e f
 
 abbrev numberIn : Written → ℕ
 numberIn (Written.Done n) = withRest 0 n
-numberIn (Written.Refused n) = withRest n 0
+numberIn (Written.Refused n k) = withRest n (inRecord k)
 
 abbrev Short : Written → Type 0
 Short (Written.Done n) = n ≤ 171
-Short (Written.Refused n) = Unit {0}
+Short (Written.Refused n k) = Unit {0}
 
-so-ap : {A B : Type 0} (f : A → B) (b : Bool) (x y : A) → f (ifSo b x y) ≡ ifSo b (f x) (f y)
-unfolding ifSo
-so-ap f true x y = refl
-so-ap f false x y = refl
+-- a field of the component is one of the record, and none is none
+none-in : (k : ℕ) → k ≡ 0 → inRecord k ≡ 0
+unfolding inRecord
+none-in k h = sym (yes-eq _ _ _ _ _ h refl)
 
-number-as : (ok : ℕ) (t out : List ℕ) → numberIn (wireWritten ok t out) ≡ givesOf (eqb ok 1) t out
-unfolding wireWritten givesOf ifEq ifLt
-number-as ok t out =
-    let n = so-ap numberIn (ltb (length out) (length t)) (Written.Refused 8) (Written.Done (length t)) in
-    so-ap numberIn (eqb ok 1) _ _ ∙ ap (λ (x : ℕ). ifSo (eqb ok 1) x 3) n
+some-in : (k : ℕ) → (k ≡ 0 → ⊥) → inRecord k ≡ 0 → ⊥
+unfolding inRecord
+some-in k h = both-eq k 0 (λ (z : ℕ). z ≡ 0 → ⊥) _ _ (λ e _. h e) (λ _ e. omega (arith, e))
 
-left-as : (ok : ℕ) (t out : List ℕ) → wireLeaves ok t out ≡ leavesOf (eqb ok 1) t out
-unfolding wireLeaves leavesOf ifEq
-left-as ok t out = refl
+number-as : (bad : ℕ) (t out : List ℕ) → numberIn (wireWritten bad t out) ≡ givesOf (inRecord bad) t out
+unfolding wireWritten givesOf
+number-as bad t out =
+    both-eq bad 0 (λ (w : Written). numberIn w ≡ givesOf (inRecord bad) t out) _ _
+    (λ e.
+    both-lt (length out) (length t) (λ (w : Written). numberIn w ≡ givesOf (inRecord bad) t out) _ _
+    (λ l. ap (withRest 8) (none-in 0 refl) ∙ yes-eq _ _ _ _ _ (none-in bad e) (yes-lt _ _ _ _ _ l refl))
+    (λ l. yes-eq _ _ _ _ _ (none-in bad e) (no-lt _ _ _ _ _ l refl)))
+    (λ h. no-eq _ _ _ _ _ (some-in bad h) refl)
 
-short : (c : Component) (out : List ℕ) → Short (wireWritten (writableOf c) (parameterText c) out)
+left-as : (bad : ℕ) (t out : List ℕ) → wireLeaves bad t out ≡ leavesOf (inRecord bad) t out
+unfolding wireLeaves leavesOf
+left-as bad t out =
+    both-eq bad 0 (λ (x : List ℕ). x ≡ leavesOf (inRecord bad) t out) _ _
+    (λ e. yes-eq _ _ _ _ _ (none-in bad e) refl) (λ h. no-eq _ _ _ _ _ (some-in bad h) refl)
+
+short : (c : Component) (out : List ℕ) → Short (wireWritten (badOf c) (parameterText c) out)
 unfolding wireWritten
 short c out =
     both-eq _ _ Short _ _ (λ _. both-lt _ _ Short _ _ (λ _. tt) (λ _. parameter-most c)) (λ _. tt)
@@ -141,59 +158,73 @@ module _ (c : Component) (out new : List ℕ) (w : Written) (e : Wrote c out w n
   pub done-small : (n : ℕ) → w ≡ Written.Done n → n < 2 ^ 23
   done-small n f = let l : n ≤ 171 = subst Short (sym (e .0) ∙ f) (short c out) in omega arith
 
-  component-by : (x : Written) (r : ℕ) → w ≡ x → r ≡ numberIn x → Gave (eqb (writableOf c) 1) (parameterText c) out r new
+  component-by : (x : Written) (r : ℕ) → w ≡ x → r ≡ numberIn x → Gave (inRecord (badOf c)) (parameterText c) out r new
   component-by x r f g = (
-    g ∙ ap numberIn (sym f ∙ e .0) ∙ number-as (writableOf c) (parameterText c) out,
-    e .1 ∙ left-as (writableOf c) (parameterText c) out,
+    g ∙ ap numberIn (sym f ∙ e .0) ∙ number-as (badOf c) (parameterText c) out,
+    e .1 ∙ left-as (badOf c) (parameterText c) out,
   )
 
-  pub component-done : (n r : ℕ) → w ≡ Written.Done n → r ≡ withRest 0 n → Gave (eqb (writableOf c) 1) (parameterText c) out r new
+  pub component-done : (n r : ℕ) → w ≡ Written.Done n → r ≡ withRest 0 n → Gave (inRecord (badOf c)) (parameterText c) out r new
   component-done n r f g = component-by (Written.Done n) r f g
 
-  pub component-not : (n r : ℕ) → w ≡ Written.Refused n → r ≡ withRest n 0 → Gave (eqb (writableOf c) 1) (parameterText c) out r new
-  component-not n r f g = component-by (Written.Refused n) r f g
+  pub component-not : (n k r : ℕ) → w ≡ Written.Refused n k → (x : ℕ) → x ≡ inRecord k → r ≡ withRest n x → Gave (inRecord (badOf c)) (parameterText c) out r new
+  component-not n k r f x h g = component-by (Written.Refused n k) r f (g ∙ ap (withRest n) h)
 
-module _ (m : Message) (id : ℕ) (out : List ℕ) (ok : Bool) (e : ok ≡ messageOk m) where
-  pub message-bad : ok ≡ false → Gave (sendable (Received m) id) (sentText (Received m) id) out 3 out
-  unfolding sendable
-  message-bad h = gives-bad _ _ out (ap (λ (b : Bool). b && eqb (writableOf (carriedOf m id)) 1) (sym e ∙ h))
+-- what is given and left for an event
+abbrev pub Sends : Event → ℕ → List ℕ → ℕ → List ℕ → Type 0
+Sends e id out r new = (r ≡ sendGives e id out) × (new ≡ sendLeaves e id out)
 
-  pub message-good : (c : Component) (r : ℕ) (new : List ℕ) → ok ≡ true → c ≡ carriedOf m id
-      → Gave (eqb (writableOf c) 1) (parameterText c) out r new → Gave (sendable (Received m) id) (sentText (Received m) id) out r new
-  unfolding sendable sentText
-  message-good c r new h f g =
-      let q : eqb (writableOf (carriedOf m id)) 1 ≡ (messageOk m && eqb (writableOf (carriedOf m id)) 1) =
-      ap (λ (b : Bool). b && eqb (writableOf (carriedOf m id)) 1) (sym h ∙ e) in
-      subst (λ (b : Bool). Gave b (parameterText (carriedOf m id)) out r new) q
-      (subst (λ (x : Component). Gave (eqb (writableOf x) 1) (parameterText x) out r new) f g)
+nearest-none : (a b : ℕ) → a ≡ 0 → nearest a b ≡ b
+unfolding nearest
+nearest-none a b h = sym (yes-eq _ _ _ _ _ h refl)
+
+nearest-some : (a b : ℕ) → (a ≡ 0 → ⊥) → nearest a b ≡ 0 → ⊥
+unfolding nearest
+nearest-some a b h =
+    both-eq a 0 (λ (z : ℕ). z ≡ 0 → ⊥) _ _ (λ e _. h e)
+    (λ _. both-eq b 0 (λ (z : ℕ). z ≡ 0 → ⊥) _ _ (λ _. h) (λ g. both-lt b a (λ (z : ℕ). z ≡ 0 → ⊥) _ _ (λ _. g) (λ _. h)))
+
+module _ (m : Message) (id : ℕ) (out : List ℕ) (c : Component) (f : c ≡ carriedOf m id) (a : ℕ) (e : a ≡ badFieldOf (Received m)) where
+  pub message-good : (r : ℕ) (new : List ℕ) → a ≡ 0 → Gave (inRecord (badOf c)) (parameterText c) out r new → Sends (Received m) id out r new
+  unfolding sentBad sendGives sendLeaves
+  message-good r new h g =
+      subst (λ (k : ℕ). Gave k (parameterText (carriedOf m id)) out r new)
+      (sym (nearest-none (badFieldOf (Received m)) (inRecord (badOf (carriedOf m id))) (sym e ∙ h)))
+      (subst (λ (x : Component). Gave (inRecord (badOf x)) (parameterText x) out r new) f g)
+
+  pub message-bad : (b x k r : ℕ) → (a ≡ 0 → ⊥) → b ≡ badOf c → x ≡ inRecord b → k ≡ nearest a x → r ≡ withRest 3 k → Sends (Received m) id out r out
+  unfolding sentBad sendGives sendLeaves
+  message-bad b x k r h g i j l =
+      let q : k ≡ nearest (badFieldOf (Received m)) (inRecord (badOf (carriedOf m id))) =
+      j ∙ ap (λ (y : ℕ). nearest y x) e ∙ ap (nearest (badFieldOf (Received m))) (i ∙ ap inRecord (g ∙ ap badOf f)) in
+      gives-bad _ _ out r (nearest-some (badFieldOf (Received m)) _ (λ z. h (e ∙ z))) (l ∙ ap (withRest 3) q)
 
 module _ (e : Event) (id : ℕ) (out : List ℕ) where
-  other : (x : Event) → e ≡ x → sendable x id ≡ false → Gave (sendable e id) (sentText e id) out 3 out
-  other x f h = gives-bad _ _ out (ap (λ (y : Event). sendable y id) f ∙ h)
+  other : (x : Event) → e ≡ x → Sends x id out 3 out → Sends e id out 3 out
+  other x f g = subst (λ (y : Event). Sends y id out 3 out) (sym f) g
 
-  pub event-opening : (role flags : ℕ) (own : Number) → e ≡ Opening role flags own → Gave (sendable e id) (sentText e id) out 3 out
-  unfolding sendable
-  event-opening role flags own f = other _ f refl
+  pub event-opening : (role flags : ℕ) (own : Number) → e ≡ Opening role flags own → Sends e id out 3 out
+  unfolding sendGives sendLeaves
+  event-opening role flags own f = other _ f (refl, refl)
 
-  pub event-ask : (item : ℕ) (called : Number) → e ≡ Ask item called → Gave (sendable e id) (sentText e id) out 3 out
-  unfolding sendable
-  event-ask item called f = other _ f refl
+  pub event-ask : (item : ℕ) (called : Number) → e ≡ Ask item called → Sends e id out 3 out
+  unfolding sendGives sendLeaves
+  event-ask item called f = other _ f (refl, refl)
 
-  pub event-access : (item error : ℕ) → e ≡ FromAccess item error → Gave (sendable e id) (sentText e id) out 3 out
-  unfolding sendable
-  event-access item error f = other _ f refl
+  pub event-access : (item error : ℕ) → e ≡ FromAccess item error → Sends e id out 3 out
+  unfolding sendGives sendLeaves
+  event-access item error f = other _ f (refl, refl)
 
-  pub event-expiry : e ≡ Expiry → Gave (sendable e id) (sentText e id) out 3 out
-  unfolding sendable
-  event-expiry f = other _ f refl
+  pub event-expiry : e ≡ Expiry → Sends e id out 3 out
+  unfolding sendGives sendLeaves
+  event-expiry f = other _ f (refl, refl)
 
-  pub event-time : (seconds : ℕ) → e ≡ Time seconds → Gave (sendable e id) (sentText e id) out 3 out
-  unfolding sendable
-  event-time seconds f = other _ f refl
+  pub event-time : (seconds : ℕ) → e ≡ Time seconds → Sends e id out 3 out
+  unfolding sendGives sendLeaves
+  event-time seconds f = other _ f (refl, refl)
 
-  pub event-message : (m : Message) (r : ℕ) (new : List ℕ) → e ≡ Received m
-      → Gave (sendable (Received m) id) (sentText (Received m) id) out r new → Gave (sendable e id) (sentText e id) out r new
-  event-message m r new f g = subst (λ (x : Event). Gave (sendable x id) (sentText x id) out r new) (sym f) g
+  pub event-message : (m : Message) (r : ℕ) (new : List ℕ) → e ≡ Received m → Sends (Received m) id out r new → Sends e id out r new
+  event-message m r new f g = subst (λ (x : Event). Sends x id out r new) (sym f) g
 
 -- what is given and left for what was read
 abbrev Writes : Read → ℕ → List ℕ → ℕ → List ℕ → Type 0
@@ -209,8 +240,41 @@ module _ (f x : Read) (id : ℕ) (out : List ℕ) (e : f ≡ x) where
   entry-stop n r g h = let k : r ≡ n = omega arith in subst (λ (y : Read). Writes y id out r out) (sym g ∙ e) (k, refl)
 
   pub entry-got : (ev : Event) (next i r : ℕ) (new : List ℕ) → f ≡ Read.Got ev next → i ≡ id
-      → Gave (sendable ev i) (sentText ev i) out r new → Writes x id out r new
+      → Sends ev i out r new → Writes x id out r new
   unfolding writeGives writeLeaves
   entry-got ev next i r new g h k =
       subst (λ (y : Read). Writes y id out r new) (sym g ∙ e)
-      (subst (λ (j : ℕ). Gave (sendable ev j) (sentText ev j) out r new) h k)
+      (subst (λ (j : ℕ). Sends ev j out r new) h k)
+
+-- ---- whichever of two ordinals is the first
+
+-- it is one of them, 0 where both are, and none of those that are there is before it
+pub record Nearest (a b n : ℕ) : Type 0 where
+  pub one-of : (n ≡ a) ⊎ (n ≡ b)
+  pub none : (n ≡ 0) ↔ ((a ≡ 0) × (b ≡ 0))
+  pub first : (a ≡ 0 → ⊥) → n ≤ a
+  pub second : (b ≡ 0 → ⊥) → n ≤ b
+
+pub is-nearest : (a b : ℕ) → Nearest a b (nearest a b)
+unfolding nearest
+is-nearest a b =
+    both-eq a 0 (Nearest a b) _ _
+    (λ e. record { one-of = inr refl; none = (λ z. (e, z), λ z. z .1); first = λ h. absurd (h e); second = λ h. omega arith })
+    (λ g.
+    both-eq b 0 (Nearest a b) _ _
+    (λ e. record { one-of = inl refl; none = (λ z. absurd (g z), λ z. z .0); first = λ h. omega arith; second = λ h. absurd (h e) })
+    (λ h.
+    both-lt b a (Nearest a b) _ _
+    (λ l. record { one-of = inr refl; none = (λ z. absurd (h z), λ z. z .1); first = λ k. omega (arith, l); second = λ k. omega arith })
+    (λ l. record { one-of = inl refl; none = (λ z. absurd (g z), λ z. z .0); first = λ k. omega arith; second = λ k. omega (arith, l) })))
+
+pub none-in-record : (k : ℕ) → (inRecord k ≡ 0) ↔ (k ≡ 0)
+none-in-record k = (go k, none-in k)
+  where
+    go : (n : ℕ) → inRecord n ≡ 0 → n ≡ 0
+    unfolding inRecord
+    go n = both-eq n 0 (λ (z : ℕ). z ≡ 0 → n ≡ 0) _ _ (λ e _. e) (λ _ e. absurd (omega (arith, e)))
+
+pub some-in-record : (k : ℕ) → (k ≡ 0 → ⊥) → inRecord k ≡ 2 + k
+unfolding inRecord
+some-in-record k h = sym (no-eq _ _ _ _ _ h refl)

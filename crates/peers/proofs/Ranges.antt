@@ -1,7 +1,8 @@
 -- What fits on the wire is in range as an event, where the message that carries it is.
 -- Assumes nothing.
 use mathlib.Core.Bool.{Bool, true, false, _&&_, _||_, not}
-use mathlib.Core.Path.{_≡_, refl, ap, _∙_}
+use mathlib.Core.Path.{_≡_, refl, sym, ap, subst, _∙_}
+use mathlib.Core.List.{List, [], _∷_}
 use Prim.Native.Nat.{ℕ, zero, suc, _+_, _*_, _/_, _%_, _^_, _≤_, _<_}
 use native.Mathlib.Omega.{arith}
 use borrow.Author.Tests.{lt-ltb, le-leb, eq-eqb}
@@ -9,29 +10,35 @@ use lib.Dec.{ltb, leb, eqb}
 use Rattle.text.specs.Choose.{ifSo, ifLt, ifEq}
 use Rattle.files.specs.Bodies.{natureOf, countOf, componentOf}
 use Rattle.rows.specs.Telephone.{national}
-use Rattle.rows.specs.Valid.{pickℕ, numberThere, numberIf, componentOk, partsOk, messageOk}
+use Rattle.rows.specs.Read.{bit}
+use Rattle.rows.specs.Valid.{pickℕ, everyOne, firstFalse, numberThere, numberAbsent, codeOk, itemOk, presentThen, badFieldOf}
+use Rattle.rows.specs.declared.Event.the-variants.{Received}
+use Rattle.rows.proofs.Ranges.{none-false}
 use Rattle.rows.proofs.Truth.{both, or-true}
-use Rattle.wire.specs.Texts.{argumentOk, resultOk}
+use Rattle.wire.specs.Writable.{argumentOk, resultOk}
 use Rattle.wire.specs.Values.{absentNumber}
 use Rattle.wire.specs.declared.Component.{Component}
 use Rattle.wire.specs.declared.Number.{Number as Party}
 use Rattle.wire.proofs.Digited.{Fine}
 use Rattle.wire.proofs.Fits.{Shaped, Fits}
 use Rattle.wire.proofs.Goods.{argument-inv, result-inv}
-use Rattle.peers.specs.Entries.{carrierOk}
+use Rattle.peers.specs.Entries.{carrierBad}
 use Rattle.peers.specs.Messages.{numberOf, heardOf, noComponent}
 
 -- ---- component and parts
 
-by-code : (k j n : ℕ) → k ≡ j → componentOk (componentOf j n) ≡ true → componentOk (componentOf k n) ≡ true
-by-code k j n h e = ap (λ (i : ℕ). componentOk (componentOf i n)) h ∙ e
+abbrev Known : ℕ → ℕ → Type 0
+Known k n = (codeOk (componentOf k n) ≡ true) × (itemOk (componentOf k n) ≡ true)
 
-component-ranged : (k n p : ℕ) → Shaped k n p → componentOk (componentOf k n) ≡ true
+by-code : (k j n : ℕ) → k ≡ j → Known j n → Known k n
+by-code k j n h e = subst (λ (i : ℕ). Known i n) (sym h) e
+
+component-ranged : (k n p : ℕ) → Shaped k n p → Known k n
 unfolding componentOf ifEq ifSo
-component-ranged k n p (Shaped.calls h a b e) = by-code k 1 n h (both (le-leb 1 n a) (le-leb n 3 b))
-component-ranged k n p (Shaped.answers h a b e) = by-code k 2 n h (both (le-leb 1 n a) (le-leb n 3 b))
-component-ranged k n p (Shaped.fails h a b e) = by-code k 3 n h refl
-component-ranged k n p (Shaped.rejects h a e) = by-code k 4 n h (eq-eqb n 0 a)
+component-ranged k n p (Shaped.calls h a b e) = by-code k 1 n h (refl, both (le-leb 1 n a) (le-leb n 3 b))
+component-ranged k n p (Shaped.answers h a b e) = by-code k 2 n h (refl, both (le-leb 1 n a) (le-leb n 3 b))
+component-ranged k n p (Shaped.fails h a b e) = by-code k 3 n h (refl, refl)
+component-ranged k n p (Shaped.rejects h a e) = by-code k 4 n h (refl, eq-eqb n 0 a)
 
 -- no part past 64, and 4 only with 2
 abbrev Named : ℕ → Type 0
@@ -68,7 +75,7 @@ bits-follow zero (suc b) h g = absurd (omega arith)
 bits-follow (suc zero) b h g = refl
 bits-follow (suc (suc a)) b h g = absurd (omega arith)
 
-parts-ranged : (p : ℕ) → Named p → partsOk p ≡ true
+parts-ranged : (p : ℕ) → Named p → (leb p 127 && (bit 2 p || not (bit 4 p))) ≡ true
 parts-ranged p (h, g) = both (le-leb p 127 h) (bits-follow (p / 2 % 2) (p / 4 % 2) (omega arith) g)
 
 -- ---- numbers
@@ -85,14 +92,22 @@ fine-ranged n f =
     (both (ten-above (leb count 15) (n .value) (10 ^ count) (le-leb count 15 (f .most)) (f .fits))
     (or-true (national (natureOf (n .count))) (leb 1 count) some)) some
 
-absent-ranged : numberIf false (numberOf absentNumber) ≡ true
+absent-ranged : numberAbsent (numberOf absentNumber) ≡ true
 unfolding numberOf natureOf countOf ifLt ifSo
 absent-ranged = refl
 
-number-ranged : (b : ℕ) (n : Party) → b < 2 → (b ≡ 1 → Fine n) → (b ≡ 0 → n ≡ absentNumber) → numberIf (eqb b 1) (numberOf n) ≡ true
-number-ranged zero n h f g = ap (λ (x : Party). numberIf false (numberOf x)) (g refl) ∙ absent-ranged
-number-ranged (suc zero) n h f g = ap (λ (t : Bool). t || false) (fine-ranged n (f refl))
-number-ranged (suc (suc b)) n h f g = absurd (omega arith)
+-- not there where its part is not ..
+unnamed-ranged : (b : ℕ) (n : Party) → b < 2 → (b ≡ 0 → n ≡ absentNumber) → (eqb b 1 || numberAbsent (numberOf n)) ≡ true
+unnamed-ranged zero n h g = ap (λ (x : Party). numberAbsent (numberOf x)) (g refl) ∙ absent-ranged
+unnamed-ranged (suc zero) n h g = refl
+unnamed-ranged (suc (suc b)) n h g = absurd (omega arith)
+
+-- .. and in range where it is
+present-ranged : (b : ℕ) (n : Party) (rest : List Bool) → b < 2 → (b ≡ 1 → Fine n) → everyOne rest ≡ true
+    → everyOne (presentThen (eqb b 1) (numberThere (numberOf n)) rest) ≡ true
+present-ranged zero n rest h f e = e
+present-ranged (suc zero) n rest h f e = both (fine-ranged n (f refl)) e
+present-ranged (suc (suc b)) n rest h f e = absurd (omega arith)
 
 -- ---- the Duration
 
@@ -101,25 +116,42 @@ duration-ranged zero d h g = eq-eqb d 0 (g refl)
 duration-ranged (suc zero) d h g = refl
 duration-ranged (suc (suc b)) d h g = absurd (omega arith)
 
+timed-ranged : (b : Bool) → everyOne (presentThen b true []) ≡ true
+timed-ranged true = refl
+timed-ranged false = refl
+
 -- ---- the message
 
-and-rest : (a b t : Bool) → t ≡ true → (a && (b && t)) ≡ (a && b)
-and-rest true true t h = h
-and-rest true false t h = refl
-and-rest false b t h = refl
+-- message and cause alone are left to judge
+carrier-only : (a b : Bool) (rest : List Bool) → everyOne rest ≡ true → firstFalse 1 (a ∷ b ∷ rest) ≡ firstFalse 1 (a ∷ b ∷ [])
+carrier-only a b rest h = ap (λ (k : ℕ). pickℕ a (pickℕ b k 2) 1) (none-false 3 rest h)
 
 -- What fits is in range in any message whose kind and cause are: nothing of the component need be looked at again.
-pub fits-ranged : (message cause : ℕ) (c : Component) → Fits c → messageOk (heardOf message cause c) ≡ carrierOk message cause
-unfolding heardOf carrierOk
+pub fits-ranged : (message cause : ℕ) (c : Component) → Fits c → badFieldOf (Received (heardOf message cause c)) ≡ carrierBad message cause
+unfolding heardOf carrierBad
 fits-ranged message cause c f =
     let p = c .parts in
-    and-rest (leb 1 message && leb message 5) (leb cause 127) _
-    (both (component-ranged (c .kind) (c .item) p (f .shaped))
+    let k = component-ranged (c .kind) (c .item) p (f .shaped) in
+    carrier-only (leb 1 message && leb message 5) (leb cause 127) _
+    (both (k .0)
+    (both (k .1)
+    (both
     (both (parts-ranged p (shaped-named (c .kind) (c .item) p (f .shaped)))
-    (both (number-ranged (p / 16 % 2) (c .calling) (omega arith) (f .calling-fine) (f .calling-none))
-    (both (number-ranged (p / 32 % 2) (c .called) (omega arith) (f .called-fine) (f .called-none))
-    (duration-ranged (p / 64 % 2) (c .duration) (omega arith) (f .duration-none))))))
+    (both (unnamed-ranged (p / 16 % 2) (c .calling) (omega arith) (f .calling-none))
+    (both (unnamed-ranged (p / 32 % 2) (c .called) (omega arith) (f .called-none))
+    (duration-ranged (p / 64 % 2) (c .duration) (omega arith) (f .duration-none)))))
+    (present-ranged (p / 16 % 2) (c .calling) _ (omega arith) (f .calling-fine)
+    (present-ranged (p / 32 % 2) (c .called) _ (omega arith) (f .called-fine) (timed-ranged (eqb (p / 64 % 2) 1)))))))
 
-pub none-ranged : (message cause : ℕ) → messageOk (heardOf message cause noComponent) ≡ carrierOk message cause
-unfolding heardOf carrierOk noComponent componentOf numberOf natureOf countOf ifEq ifLt ifSo
-none-ranged message cause = and-rest (leb 1 message && leb message 5) (leb cause 127) _ refl
+pub none-ranged : (message cause : ℕ) → badFieldOf (Received (heardOf message cause noComponent)) ≡ carrierBad message cause
+unfolding heardOf carrierBad noComponent componentOf numberOf natureOf countOf ifEq ifLt ifSo
+none-ranged message cause = carrier-only (leb 1 message && leb message 5) (leb cause 127) _ refl
+
+pub carrier-small : (message cause : ℕ) → carrierBad message cause ≤ 2
+unfolding carrierBad
+carrier-small message cause = by (leb 1 message && leb message 5) (leb cause 127)
+  where
+    by : (a b : Bool) → pickℕ a (pickℕ b 0 2) 1 ≤ 2
+    by true true = omega arith
+    by true false = omega arith
+    by false b = omega arith

@@ -7,7 +7,8 @@ use Prim.Native.Nat.{ℕ}
 use Rattle.text.proofs.Same.{same}
 use Rattle.rows.specs.declared.Note.{Note}
 use Rattle.wire.specs.Parameters.{Parameter, refused, holds, parameterOf}
-use Rattle.wire.specs.Texts.{parameterText, writableOf, writtenOf, leavesOf}
+use Rattle.wire.specs.Texts.{parameterText, writtenOf, leavesOf}
+use Rattle.wire.specs.Writable.{badOf}
 use Rattle.wire.specs.declared.Written.{Written}
 use Rattle.peers.specs.Entries.{entriesOf, keptOf, Keeps, readGives, readLeaves, identifierAt, recordAt, writeGives, writeLeaves}
 use Rattle.peers.specs.Messages.{sentOf}
@@ -37,8 +38,8 @@ parametered-same entry old p q = both-same p q
 -- What `write_sent` says.
 abbrev pub Sent : Note → ℕ → List ℕ → Written → List ℕ → Type 0
 Sent n id old w new =
-    (w ≡ writtenOf (writableOf (sentOf n id)) (parameterText (sentOf n id)) old)
-    × (new ≡ leavesOf (writableOf (sentOf n id)) (parameterText (sentOf n id)) old)
+    (w ≡ writtenOf (badOf (sentOf n id)) (parameterText (sentOf n id)) old)
+    × (new ≡ leavesOf (badOf (sentOf n id)) (parameterText (sentOf n id)) old)
 
 pub sent-same : (n : Note) (id : ℕ) (old : List ℕ) {w w′ : Written} {new new′ : List ℕ} →
     Sent n id old w new → Sent n id old w′ new′ → (w ≡ w′) × (new ≡ new′)

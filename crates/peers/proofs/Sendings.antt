@@ -1,7 +1,7 @@
 -- What a row sends can be written: its component and parts go together, the own number is one that can be written, and the Duration is what
 -- is left to be judged.
 -- Assumes nothing.
-use mathlib.Core.Bool.{Bool, true, false, _||_, not}
+use mathlib.Core.Bool.{Bool, true, false, _&&_, _||_, not}
 use mathlib.Core.List.{List, [], _∷_}
 use mathlib.Core.Logic.{_↔_}
 use mathlib.Core.Path.{_≡_, refl, sym, ap, subst, _∙_}
@@ -16,7 +16,7 @@ use Rattle.files.proofs.CountByte.{in-range-value}
 use Rattle.rows.specs.History.{run}
 use Rattle.rows.specs.Perform.{ifThere, secondsIf, noteOf, standOf, sideOf}
 use Rattle.rows.specs.Read.{bit, kindBy, listedOf, readOf}
-use Rattle.rows.specs.Step.{unopenedCall, stepOf}
+use Rattle.rows.specs.Step.{unopenedCall, isUnopened, stepOf}
 use Rattle.rows.specs.Valid.{inRange, numberThere, eventOk}
 use Rattle.rows.specs.declared.Call.{Call}
 use Rattle.rows.specs.declared.Component.{Component as Sent}
@@ -29,8 +29,6 @@ use Rattle.rows.specs.declared.Nature.{Nature}
 use Rattle.rows.specs.declared.Nature.the-variants.{National, International}
 use Rattle.rows.specs.declared.Number.{Number}
 use Rattle.rows.specs.declared.Outcome.{Outcome}
-use Rattle.rows.specs.declared.Phase.{Phase}
-use Rattle.rows.specs.declared.Phase.the-variants.{Unopened, Null, Setup, Answered, Cleared}
 use Rattle.rows.specs.declared.Register.{Register}
 use Rattle.rows.specs.declared.Register.the-variants.{AsHeld, FromOpening, CalledNumber, CallingNumber}
 use Rattle.rows.specs.declared.Side.{Side}
@@ -38,7 +36,10 @@ use Rattle.rows.proofs.Answers.{planFor}
 use Rattle.rows.proofs.Found.{implies, so, Test, holds, stepped}
 use Rattle.rows.proofs.Sent.{errorListed, error-listed}
 use Rattle.rows.proofs.Truth.{differ, left, right, either, or-true}
-use Rattle.wire.specs.Texts.{partyOk, durationOk, argumentOk, resultOk, rangeOk, shapeBy, shapeOk, allOf, writableOf}
+use Rattle.wire.specs.Values.{absentNumber}
+use Rattle.wire.specs.Writable.{rangeOk, itemOk, argumentOk, resultOk, placesOk, writableOf}
+use Rattle.wire.proofs.Digited.{Fine}
+use Rattle.wire.proofs.Goods.{Kinds, calls, answers, fails, Sized, range-inv, written-good, good-written}
 use Rattle.peers.specs.Messages.{partyOf, carriedOf, sentOf}
 
 -- ---- component and parts
@@ -52,11 +53,11 @@ isThere (Error n) = true
 isThere (Reject n) = true
 isThere (Unknown code n) = true
 
--- the identifier 0 stands for all of a byte, and an error's number is judged apart
+-- an error's number is judged apart
 abbrev goesWith : Sent → ℕ → Bool
 goesWith (Absent n) p = true
-goesWith (Invoke n) p = eqb (shapeOk 1 n p 0) 1
-goesWith (Result n) p = eqb (shapeOk 2 n p 0) 1
+goesWith (Invoke n) p = eqb (itemOk 1 n) 1 && eqb (placesOk 1 n p) 1
+goesWith (Result n) p = eqb (itemOk 2 n) 1 && eqb (placesOk 2 n p) 1
 goesWith (Error n) p = eqb p 0
 goesWith (Reject n) p = false
 goesWith (Unknown code n) p = false
@@ -65,19 +66,8 @@ abbrev shapely : Test
 shapely r now k p = implies (eqb (p .number) 0) (goesWith (p .component) (p .parts))
 
 shapes : (c : Call) (e : Event) → shapely (c .side .role) (c .stand) (readOf e .kind) (planFor c e) ≡ true
-unfolding shapeOk shapeBy rangeOk argumentOk resultOk ifEq ifLt ifSo
+unfolding itemOk placesOk rangeOk argumentOk resultOk ifEq ifLt ifSo
 shapes c e = holds shapely (λ e t a b. refl) c e
-
-range-any : (x n low high : ℕ) → x < 256 → rangeOk x n low high ≡ rangeOk 0 n low high
-unfolding rangeOk
-range-any x n low high h = sym (no-lt 255 x _ _ _ (omega arith) refl) ∙ no-lt 255 0 _ _ _ (omega arith) refl
-
-shape-any : (k n p x : ℕ) → x < 256 → k ≤ 3 → shapeOk k n p x ≡ shapeOk k n p 0
-unfolding shapeOk shapeBy
-shape-any k n p x h l =
-    let z : ℕ = ifEq n 0 (ifEq p 0 1 0) 0 in
-    let u : ifLt 256 x 0 z ≡ ifLt 256 0 0 z = sym (no-lt 256 x _ _ _ (omega arith) refl) ∙ no-lt 256 0 _ _ _ (omega arith) refl in
-    rw (range-any x n 1 3 h, range-any x n 4 12 h, u)
 
 -- one of 4 to 12, k tried first
 among : (n k : ℕ) (b : Bool) → 4 ≤ k → k ≤ 12 → (b ≡ true → (4 ≤ n) × (n ≤ 12)) → (eqb n k || b) ≡ true → (4 ≤ n) × (n ≤ 12)
@@ -90,20 +80,14 @@ listed-range n =
     (among n 10 _ (omega arith) (omega arith) (among n 11 _ (omega arith) (omega arith)
     (λ e. let d = eqb-true n 12 e in (omega arith, omega arith)))))))))
 
-error-fits : (n p x : ℕ) → x < 256 → listedOf n ≡ true → p ≡ 0 → 1 ≡ shapeOk 3 n p x
-unfolding shapeOk shapeBy rangeOk
-error-fits n p x h l e =
-    let r = listed-range n l in
-    let f : 1 ≡ rangeOk x n 4 12 = no-lt _ _ _ _ _ (omega arith) (no-lt _ _ _ _ _ (r .0) (no-lt _ _ _ _ _ (r .1) refl)) in
-    no-eq 3 1 _ _ _ (λ z. omega arith) (no-eq 3 2 _ _ _ (λ z. omega arith)
-    (yes-eq 3 3 _ _ _ refl (yes-eq _ _ _ _ _ (sym f) (yes-eq _ _ _ _ _ e refl))))
-
-shape-fits : (x : Sent) (p i : ℕ) → i < 256 → isThere x ≡ true → goesWith x p ≡ true → errorListed x ≡ true
-    → shapeOk (codeOf x) (itemOf x) p i ≡ 1
+shape-fits : (x : Sent) (p i : ℕ) → i < 256 → isThere x ≡ true → goesWith x p ≡ true → errorListed x ≡ true → Kinds (codeOf x) (itemOf x) p i
+unfolding itemOk placesOk ifEq ifSo
 shape-fits (Absent n) p i h t g l = differ t
-shape-fits (Invoke n) p i h t g l = shape-any 1 n p i h (omega arith) ∙ eqb-true _ _ g
-shape-fits (Result n) p i h t g l = shape-any 2 n p i h (omega arith) ∙ eqb-true _ _ g
-shape-fits (Error n) p i h t g l = sym (error-fits n p i h l (eqb-true p 0 g))
+shape-fits (Invoke n) p i h t g l =
+    let r = range-inv n 1 3 (eqb-true _ _ (left (eqb (itemOk 1 n) 1) _ g)) in calls refl h (r .0) (r .1) (eqb-true _ _ (right (eqb (itemOk 1 n) 1) _ g))
+shape-fits (Result n) p i h t g l =
+    let r = range-inv n 1 3 (eqb-true _ _ (left (eqb (itemOk 2 n) 1) _ g)) in answers refl h (r .0) (r .1) (eqb-true _ _ (right (eqb (itemOk 2 n) 1) _ g))
+shape-fits (Error n) p i h t g l = let r = listed-range n l in fails refl h (r .0) (r .1) (eqb-true p 0 g)
 shape-fits (Reject n) p i h t g l = differ g
 shape-fits (Unknown code n) p i h t g l = differ g
 
@@ -113,79 +97,65 @@ count-low : (x : Nature) (n : ℕ) → n ≤ 15 → countByte x n % 256 % 128 �
 count-low National n h = omega arith
 count-low International n h = omega arith
 
-own-fits : (n : Number) → numberThere n ≡ true → 1 ≡ partyOk 1 (partyOf n)
-unfolding partyOk partyOf
+own-fits : (n : Number) → numberThere n ≡ true → Fine (partyOf n)
+unfolding partyOf
 own-fits n h =
     let t = in-range-value n (left (inRange n) _ h) in
     let b = leb-true (n .count) 15 (t .0) in
     let a : 1 ≤ n .count = leb-true 1 (n .count) (right (inRange n) _ h) in
     let e = count-low (n .nature) (n .count) b in
-    let v : n .value < 10 ^ (countByte (n .nature) (n .count) % 256 % 128) =
-    subst (λ (k : ℕ). n .value < 10 ^ k) (sym e) (t .1) in
-    yes-eq 1 1 _ _ _ refl (no-lt _ _ _ _ _ (omega arith) (no-lt _ _ _ _ _ (omega arith) (yes-lt _ _ _ _ _ v refl)))
+    record {
+      byte = omega arith;
+      some = omega arith;
+      most = omega arith;
+      fits = subst (λ (k : ℕ). n .value < 10 ^ k) (sym e) (t .1);
+    }
 
-none-fits : (b : ℕ) → (b ≡ 1 → ⊥) → 1 ≡ partyOk b (record { count = 0; value = 0 })
-unfolding partyOk
-none-fits b h = no-eq _ _ _ _ _ h (yes-eq 0 0 _ _ _ refl (yes-eq 0 0 _ _ _ refl refl))
+party-fits : (b : ℕ) (own : Number) → numberThere own ≡ true → (t : Bool) → eqb b 1 ≡ t → b ≡ 1 → Fine (partyOf (ifThere t own))
+party-fits b own h true e f = own-fits own h
+party-fits b own h false e f = absurd (eqb-false b 1 e f)
 
-party-fits : (b : ℕ) (own : Number) → numberThere own ≡ true → (t : Bool) → eqb b 1 ≡ t → partyOk b (partyOf (ifThere t own)) ≡ 1
+party-none : (b : ℕ) (own : Number) (t : Bool) → eqb b 1 ≡ t → b ≡ 0 → partyOf (ifThere t own) ≡ absentNumber
 unfolding partyOf
-party-fits b own h true e = ap (λ (k : ℕ). partyOk k (partyOf own)) (eqb-true b 1 e) ∙ sym (own-fits own h)
-party-fits b own h false e = sym (none-fits b (eqb-false b 1 e))
+party-none b own true e f = let h = eqb-true b 1 e in absurd (omega arith)
+party-none b own false e f = refl
 
 -- ---- the Duration
 
-fits-if : (t : ℕ) → (_≡_ {A = ℕ} (ifLt 921599 t 0 1) 1) ↔ (t ≤ 921599)
-fits-if t = (
-  both-lt 921599 t (λ (x : ℕ). x ≡ 1 → t ≤ 921599) 0 1 (λ _ z. absurd (omega arith)) (λ l _. l),
-  λ l. sym (no-lt 921599 t 1 0 1 l refl),
-)
-
-duration-fits : (b s : ℕ) (t : Bool) → eqb b 1 ≡ t → (durationOk b (secondsIf t s) ≡ 1) ↔ (secondsIf t s ≤ 921599)
-unfolding durationOk
-duration-fits b s true e =
-    let d : ifLt 921599 s 0 1 ≡ durationOk b s = yes-eq b 1 _ _ _ (eqb-true b 1 e) refl in
-    let f = fits-if s in
-    (λ h. f .0 (d ∙ h), λ l. sym d ∙ f .1 l)
-duration-fits b s false e = (λ _. omega arith, λ _. sym (no-eq b 1 _ _ _ (eqb-false b 1 e) (yes-eq 0 0 _ _ _ refl refl)))
+untimed : (b s : ℕ) (t : Bool) → eqb b 1 ≡ t → b ≡ 0 → secondsIf t s ≡ 0
+untimed b s true e f = let h = eqb-true b 1 e in absurd (omega arith)
+untimed b s false e f = refl
 
 -- ---- all of it
 
-all-fits : (a b c d : ℕ) → a ≡ 1 → b ≡ 1 → c ≡ 1 → (allOf a b c d ≡ 1) ↔ (d ≡ 1)
-unfolding allOf
-all-fits a b c d e f g =
-    let w : ifEq d 1 1 0 ≡ allOf a b c d = yes-eq _ _ _ _ _ e (yes-eq _ _ _ _ _ f (yes-eq _ _ _ _ _ g refl)) in (
-      λ h. both-eq d 1 (λ (x : ℕ). x ≡ 1 → d ≡ 1) 1 0 (λ k _. k) (λ _ z. absurd (omega arith)) (w ∙ h),
-      λ h. sym w ∙ sym (yes-eq d 1 1 1 0 h refl),
-    )
-
-note-fits : (error cause : ℕ) (x : Sent) (p : ℕ) (own : Number) (caller i : ℕ) → shapeOk (codeOf x) (itemOf x) p i ≡ 1
+note-fits : (error cause : ℕ) (x : Sent) (p : ℕ) (own : Number) (caller i : ℕ) → Kinds (codeOf x) (itemOf x) p i
     → numberThere own ≡ true → (writableOf (sentOf (noteOf error cause x p own caller) i) ≡ 1) ↔ (secondsIf (bit 64 p) caller ≤ 921599)
-unfolding writableOf sentOf carriedOf
-note-fits error cause x p own caller i h o =
-    let a = party-fits (p / 16 % 2) own o (bit 16 p) refl in
-    let b = party-fits (p / 32 % 2) own o (bit 32 p) refl in
-    let d = duration-fits (p / 64 % 2) caller (bit 64 p) refl in
-    let w = all-fits _ _ _ _ h a b in
-    (λ k. d .0 (w .0 k), λ k. w .1 (d .1 k))
+unfolding sentOf carriedOf partyOf
+note-fits error cause x p own caller i k o =
+    let c = sentOf (noteOf error cause x p own caller) i in (
+      λ e. written-good c (record { calling-byte = omega arith; called-byte = omega arith }) e .0 .duration-most,
+      λ l. good-written c
+          (record {
+            calling-fine = party-fits (p / 16 % 2) own o (bit 16 p) refl;
+            calling-none = party-none (p / 16 % 2) own (bit 16 p) refl;
+            called-fine = party-fits (p / 32 % 2) own o (bit 32 p) refl;
+            called-none = party-none (p / 32 % 2) own (bit 32 p) refl;
+            duration-most = l;
+            duration-none = untimed (p / 64 % 2) caller (bit 64 p) refl;
+          })
+          k,
+    )
 
 abbrev Fits : ℕ → Outcome → Type 0
 Fits i o = isThere (o .note .component) ≡ true → (writableOf (sentOf (o .note) i) ≡ 1) ↔ (o .note .duration ≤ 921599)
 
 pub sent-fits : (c : Call) (e : Event) (i : ℕ) → numberThere (c .side .own) ≡ true → i < 256 → Fits i (stepOf c e)
 sent-fits c e i o h =
-    stepped (Fits i) c e (λ v t. differ t) (λ n v p q t. differ t)
+    stepped (Fits i) c e (λ v t. differ t) (λ n k v p q t. differ t)
     (λ n d t. note-fits _ _ (planFor c e .component) (planFor c e .parts) (c .side .own) (c .meters .caller) i
     (shape-fits (planFor c e .component) (planFor c e .parts) i h t (so _ _ (shapes c e) (d .row)) (error-listed c e)) o)
 
 -- ---- from the opening on the own number is there, and before it nothing is sent
-
-abbrev isUnopened : Phase → Bool
-isUnopened Unopened = true
-isUnopened Null = false
-isUnopened Setup = false
-isUnopened Answered = false
-isUnopened Cleared = false
 
 abbrev isOpens : Kind → Bool
 isOpens Opens = true
@@ -218,7 +188,7 @@ not-opens false false true = refl
 not-opens false false false = refl
 
 own-in-range : (e : Event) → eventOk e ≡ true → isOpens (readOf e .kind) ≡ true → numberThere (readOf e .own) ≡ true
-own-in-range (Opening r f n) o k = right (leb f 31) _ (right (leb r 1) _ o)
+own-in-range (Opening r f n) o k = left (numberThere n) _ (right (leb f 31) _ (right (leb r 1) _ o))
 own-in-range (Ask q n) o k = differ k
 own-in-range (Received m) o k = differ (sym (not-opens (eqb (m .kind) 1) (eqb (m .kind) 2 || eqb (m .kind) 3) (eqb (m .kind) 4)) ∙ k)
 own-in-range (FromAccess a n) o k = differ k
@@ -241,7 +211,7 @@ owned c = isUnopened (c .stand .phase) || numberThere (c .side .own)
 
 owned-step : (c : Call) (e : Event) → owned c ≡ true → owned (stepOf c e .call) ≡ true
 owned-step c e h =
-    stepped (λ (o : Outcome). owned (o .call) ≡ true) c e (λ v. h) (λ n v p q. h)
+    stepped (λ (o : Outcome). owned (o .call) ≡ true) c e (λ v. h) (λ n k v p q. h)
     (λ n d. or-true (isUnopened (standOf (planFor c e .next) (c .stand) .phase)) _
     (own-after (planFor c e .register) (c .side) e (isUnopened (c .stand .phase))
     (so _ _ (holds owning (λ e t a b. refl) c e) (d .row)) (d .ranged) h))
@@ -252,7 +222,7 @@ owned-run c (e ∷ es) h = owned-run (stepOf c e .call) es (owned-step c e h)
 
 silent-step : (c : Call) (e : Event) → isUnopened (c .stand .phase) ≡ true → isThere (stepOf c e .note .component) ≡ false
 silent-step c e h =
-    stepped (λ (o : Outcome). isThere (o .note .component) ≡ false) c e (λ v. refl) (λ n v p q. refl)
+    stepped (λ (o : Outcome). isThere (o .note .component) ≡ false) c e (λ v. refl) (λ n k v p q. refl)
     (λ n d. not-true _ (so _ _ (holds silent (λ e t a b. refl) c e) h))
 
 pub sent-fits-once-opened : (es : List Event) (e : Event) (i : ℕ) → i < 256 → Fits i (stepOf (run unopenedCall es) e)

@@ -6,30 +6,34 @@
 use mathlib.Core.Bool.{true}
 use mathlib.Core.List.{List, [], _∷_, _++_}
 use mathlib.Core.Logic.{_↔_}
-use mathlib.Core.Path.{_≡_, refl, sym}
+use mathlib.Core.Path.{_≡_, refl, sym, subst}
 use Prim.Native.Nat.{ℕ, _*_, _%_, _≤_, _<_}
 use native.Mathlib.Omega.{arith}
 use lib.ListN.{length, drop}
-use Rattle.text.proofs.Cases.{yes-so, both-so, no-lt, both-lt}
+use Rattle.text.proofs.Cases.{yes-eq, both-eq, no-lt, both-lt}
 use Rattle.rows.specs.History.{run}
 use Rattle.rows.specs.Step.{unopenedCall, stepOf, messageOf}
-use Rattle.rows.specs.Valid.{numberThere, eventOk}
+use Rattle.rows.specs.Valid.{numberThere, badFieldOf}
 use Rattle.rows.specs.declared.Call.{Call}
 use Rattle.rows.specs.declared.Event.{Event}
 use Rattle.rows.specs.declared.Event.the-variants.{Received}
+use Rattle.rows.specs.declared.Message.{Message}
 use Rattle.rows.specs.declared.Note.{Note}
 use Rattle.wire.specs.Grammar.{componentOf}
 use Rattle.wire.specs.Parameters.{Parameter, refused, holds, parameterOf}
-use Rattle.wire.specs.Texts.{parameterText, writableOf}
+use Rattle.wire.specs.Texts.{parameterText}
+use Rattle.wire.specs.Writable.{badOf, writableOf}
 use Rattle.wire.specs.declared.Answer.{Answer}
 use Rattle.wire.specs.declared.Component.{Component}
-use Rattle.wire.proofs.Fits.{read-fits}
+use Rattle.wire.proofs.Fits.{FitsHeld, read-fits}
 use Rattle.wire.proofs.Numbered.{NumberedWhole, parameter-numbered}
 use Rattle.wire.proofs.Theorems.{parameter-reads-back}
-use Rattle.peers.specs.Entries.{givesOf, leavesOf, orNone, entriesOf, carrierOk, rangedOf, readGives, readLeaves}
-use Rattle.peers.specs.Messages.{receivedOf, sentOf}
+use Rattle.peers.specs.Entries.{givesOf, leavesOf, orNone, entriesOf, carrierBad, firstBad, inRecord, sentBad, readGives, readLeaves}
+use Rattle.peers.specs.Messages.{receivedOf, carriedOf, sentOf}
 use Rattle.peers.proofs.Backs
 use Rattle.peers.proofs.Backs.{isCoded}
+use Rattle.peers.proofs.Entered.{fits-first-bad}
+use Rattle.peers.proofs.Hosted.{parameter-fits, Nearest, is-nearest}
 use Rattle.peers.proofs.Ranges.{fits-ranged}
 use Rattle.peers.proofs.Sendings
 use Rattle.peers.proofs.Sendings.{isThere}
@@ -56,18 +60,30 @@ pub sent-received : (message cause i : ℕ) (n : Note) → isCoded (n .component
     receivedOf message cause (sentOf n i) ≡ Received (messageOf message cause n)
 sent-received = Backs.received-back
 
--- No component that is read off the wire is out of range: of its event 3 can be said for the message's kind and cause alone.
+-- No component that is read off the wire is out of range: of its event 3 can be said for the message's kind, field 1, and cause, field 2,
+-- alone ..
 pub read-in-range : (s : List ℕ) (at next message cause : ℕ) (c : Component) → componentOf s at ≡ Answer.Read c next →
-    eventOk (receivedOf message cause c) ≡ carrierOk message cause
+    badFieldOf (receivedOf message cause c) ≡ carrierBad message cause
 unfolding receivedOf
 read-in-range s at next message cause c e = fits-ranged message cause c (read-fits s at next c e)
+
+-- .. so beside the 3 of a parameter that is read stands 1 for the message, or else 2 for the cause.
+pub three-is-the-carrier's : (s : List ℕ) (message cause : ℕ) (cs : List Component) → parameterOf s ≡ holds cs →
+    firstBad message cause (orNone cs) ≡ carrierBad message cause
+three-is-the-carrier's s message cause cs e = fits-first-bad message cause cs (subst FitsHeld e (parameter-fits s))
+
+-- Beside the 3 of an entry's message stands the first of two fields (`Nearest`), each the first of its kind: one that is out of range in a
+-- record, and one that cannot be written (`none-in-record`, `some-in-record`: counted in the record's body, behind message and cause).
+pub entry-field-first : (m : Message) (id : ℕ) → Nearest (badFieldOf (Received m)) (inRecord (badOf (carriedOf m id))) (sentBad m id)
+unfolding sentBad
+entry-field-first m id = is-nearest (badFieldOf (Received m)) (inRecord (badOf (carriedOf m id)))
 
 -- Where a host is given the number 0 the entries are there: the parameter was read, every event of it is in range, there was room, the rest
 -- is how many bytes they have, and the buffer begins with them. No refusal of a parameter, whatever its place, can be taken for that.
 abbrev pub Entries : ℕ → ℕ → Parameter → List ℕ → Type 0
 Entries message cause (refused n place) out = ⊥
 Entries message cause (holds cs) out =
-    (rangedOf message cause (orNone cs) ≡ true) × (length (entriesOf message cause (orNone cs)) ≤ length out)
+    (firstBad message cause (orNone cs) ≡ 0) × (length (entriesOf message cause (orNone cs)) ≤ length out)
     × (readGives message cause (holds cs) out ≡ 256 * length (entriesOf message cause (orNone cs)))
     × (readLeaves message cause (holds cs) out ≡ entriesOf message cause (orNone cs) ++ drop (length (entriesOf message cause (orNone cs))) out)
 
@@ -75,9 +91,9 @@ by-number : (message cause : ℕ) (p : Parameter) (out : List ℕ) → NumberedW
 unfolding readGives readLeaves givesOf leavesOf
 by-number message cause (refused n place) out (h, g) = λ e. absurd (omega arith)
 by-number message cause (holds cs) out h =
-    both-so _ (λ (z : ℕ). z % 256 ≡ 0 → Entries message cause (holds cs) out) _ _
+    both-eq _ 0 (λ (z : ℕ). z % 256 ≡ 0 → Entries message cause (holds cs) out) _ _
     (λ r. both-lt _ _ (λ (z : ℕ). z % 256 ≡ 0 → Entries message cause (holds cs) out) _ _ (λ _ e. absurd (omega arith))
-    (λ l _. (r, l, sym (yes-so _ _ _ _ r (no-lt _ _ _ _ _ l (omega arith))), sym (yes-so _ _ _ _ r (no-lt _ _ _ _ _ l refl)))))
+    (λ l _. (r, l, sym (yes-eq _ _ _ _ _ r (no-lt _ _ _ _ _ l (omega arith))), sym (yes-eq _ _ _ _ _ r (no-lt _ _ _ _ _ l refl)))))
     (λ _ e. absurd (omega arith))
 
 pub zero-is-written : (s : List ℕ) (message cause : ℕ) (out : List ℕ) → readGives message cause (parameterOf s) out % 256 ≡ 0 →

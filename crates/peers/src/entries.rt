@@ -6,9 +6,9 @@ ghost use lib.ListN.{length};
 ghost use Rattle.text.specs.Text.{Put};
 ghost use Rattle.files.specs.Bodies.{recordOf};
 ghost use Rattle.rows.specs.declared.Event.the-variants.{Received};
-ghost use Rattle.rows.specs.Valid.{messageOk};
+ghost use Rattle.rows.specs.Valid.{badFieldOf};
 ghost use Rattle.wire.specs.Parameters.{holds, before, walkOf};
-ghost use Rattle.peers.specs.Entries.{withRest, entryOf, carrierOk, endedOf, Keeps, KeptWithin, readGives, readLeaves};
+ghost use Rattle.peers.specs.Entries.{withRest, entryOf, carrierBad, endedOf, Keeps, KeptWithin, readGives, readLeaves};
 ghost use Rattle.peers.specs.Messages.{heardOf};
 use crate::Kept;
 use crate::messages::heard;
@@ -16,9 +16,9 @@ use rows::Message;
 use wire::Answer;
 use wire::Component;
 
-pub(crate) const BAD_FIELD: u32 = 3;
+pub(crate) const BAD_FIELD: u8 = 3;
 
-const NO_ROOM: u32 = 8;
+const NO_ROOM: u8 = 8;
 
 // Number and rest, as a host in C is given them.
 pub(crate) fn with_rest(number: u8, rest: usize) -> u32
@@ -43,42 +43,51 @@ fn put_entry(out: &mut [u8], at: usize, id: u16, m: Message) -> usize
     to + n
 }
 
-// A component that was read is in range, so only what carries it is judged: message 1 to 5, cause 0 to 127.
-fn carrier_ok(message: u8, cause: u8) -> bool
-    ensures { λ r. ⌜ r ≡ carrierOk message cause ⌝ }
+// A component that was read is in range, so only what carries it is judged: message 1 to 5, cause 0 to 127. In a record they are fields 1
+// and 2.
+fn carrier_bad(message: u8, cause: u8) -> u8
+    ensures { λ r. ⌜ (r ≡ carrierBad message cause) × (r ≤ 2) ⌝ }
 {
-    (1 <= message) & (message <= 5) & (cause <= 127)
+    if (1 <= message) & (message <= 5) {
+        if cause <= 127 {
+            return 0;
+        }
+        return 2;
+    }
+    1
 }
 
 // The usual parameter has one component.
 pub(crate) fn write_one(message: u8, cause: u8, c: Component, out: &mut [u8]) -> u32
-    requires { ⌜ messageOk (heardOf message cause c) ≡ carrierOk message cause ⌝ }
+    requires { ⌜ badFieldOf (Received (heardOf message cause c)) ≡ carrierBad message cause ⌝ }
     ensures { λ r. ⌜ (r ≡ readGives message cause (holds (c ∷ [])) (now (out .entry)))
         × (now (out .exit) ≡ readLeaves message cause (holds (c ∷ [])) (now (out .entry))) ⌝ }
 {
-    if carrier_ok(message, cause) {
+    let bad = carrier_bad(message, cause);
+    if bad == 0 {
         let m = heard(message, cause, c);
         let n = entry_size(m);
         if out.len() < n {
-            return NO_ROOM;
+            return NO_ROOM as u32;
         }
         put_entry(out, 0, c.id, m);
         return with_rest(0, n);
     }
-    BAD_FIELD
+    with_rest(BAD_FIELD, bad as usize)
 }
 
 // Entries that end at a place, of which all are read.
 fn ended(message: u8, cause: u8, room: usize, to: usize) -> Kept
-    ensures { λ r. ⌜ r ≡ endedOf (carrierOk message cause) room to ⌝ }
+    ensures { λ r. ⌜ r ≡ endedOf (carrierBad message cause) room to ⌝ }
 {
-    if carrier_ok(message, cause) {
+    let bad = carrier_bad(message, cause);
+    if bad == 0 {
         if room < to {
-            return Kept::Refused(NO_ROOM as u8, 0);
+            return Kept::Refused(NO_ROOM, 0);
         }
         return Kept::All(to);
     }
-    Kept::Refused(BAD_FIELD as u8, 0)
+    Kept::Refused(BAD_FIELD, bad as usize)
 }
 
 // The entries of the components from a place on. Nothing may be written before all are read: each is put once those that follow it stand in
@@ -116,7 +125,7 @@ pub(crate) fn write_several(
     next: usize,
     out: &mut [u8],
 ) -> u32
-    requires { ⌜ (1 ≤ next) × (next ≤ length (now s)) × (length (now s) ≤ 257) × (messageOk (heardOf message cause c) ≡ carrierOk message cause) ⌝ }
+    requires { ⌜ (1 ≤ next) × (next ≤ length (now s)) × (length (now s) ≤ 257) × (badFieldOf (Received (heardOf message cause c)) ≡ carrierBad message cause) ⌝ }
     ensures { λ r. ⌜ (r ≡ readGives message cause (before c (walkOf (now (s .entry)) next)) (now (out .entry)))
         × (now (out .exit) ≡ readLeaves message cause (before c (walkOf (now (s .entry)) next)) (now (out .entry))) ⌝ }
 {

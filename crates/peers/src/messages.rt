@@ -1,6 +1,7 @@
 // Components of the wire, and messages as calls have them.
 ghost use mathlib.Core.Path.{_≡_};
-ghost use Rattle.wire.specs.Texts.{parameterText, writableOf, writtenOf, leavesOf};
+ghost use Rattle.wire.specs.Texts.{parameterText, writtenOf, leavesOf};
+ghost use Rattle.wire.specs.Writable.{badOf};
 ghost use Rattle.peers.specs.Messages.{numberOf, heardOf, receivedOf, noComponent, aloneOf, partyOf, carriedOf, sentOf};
 use rows::Event;
 use rows::Message;
@@ -129,8 +130,8 @@ pub fn sent(n: Note, id: u16) -> Component
 
 // What a row sends, as a whole parameter: 3 for what cannot be written, then 8 for too little room.
 pub fn write_sent(n: Note, id: u16, out: &mut [u8]) -> Written
-    ensures { λ r. ⌜ (r ≡ writtenOf (writableOf (sentOf n id)) (parameterText (sentOf n id)) (now (out .entry)))
-        × (now (out .exit) ≡ leavesOf (writableOf (sentOf n id)) (parameterText (sentOf n id)) (now (out .entry))) ⌝ }
+    ensures { λ r. ⌜ (r ≡ writtenOf (badOf (sentOf n id)) (parameterText (sentOf n id)) (now (out .entry)))
+        × (now (out .exit) ≡ leavesOf (badOf (sentOf n id)) (parameterText (sentOf n id)) (now (out .entry))) ⌝ }
 {
     wire::write_parameter(sent(n, id), out)
 }

@@ -2,13 +2,13 @@
 // not 0 nothing was written.
 ghost use mathlib.Core.Path.{_≡_};
 ghost use Prim.Native.Nat.{_≤_};
-ghost use lib.Dec.{eqb};
 ghost use lib.ListN.{length};
 ghost use Rattle.rows.specs.declared.Event.the-variants.{Received};
 ghost use Rattle.wire.specs.Parameters.{walkOf, parameterOf};
-ghost use Rattle.wire.specs.Texts.{parameterText, writableOf};
+ghost use Rattle.wire.specs.Texts.{parameterText};
+ghost use Rattle.wire.specs.Writable.{badOf};
 ghost use Rattle.peers.specs.Entries.{givesOf, leavesOf, readGives, readLeaves, identifierAt, recordAt};
-ghost use Rattle.peers.specs.Entries.{sendable, sentText, writeGives, writeLeaves};
+ghost use Rattle.peers.specs.Entries.{nearest, inRecord, sendGives, sendLeaves, writeGives, writeLeaves};
 use crate::entries::BAD_FIELD;
 use crate::entries::with_rest;
 use crate::entries::write_one;
@@ -74,38 +74,67 @@ fn identifier(entry: &[u8]) -> u16
     files::le2(entry, 0) as u16
 }
 
+// A field of the component is told as one of the record, in which message and cause stand before it.
+fn in_record(k: u8) -> u16
+    ensures { λ r. ⌜ r ≡ inRecord k ⌝ }
+{
+    if k == 0 {
+        return 0;
+    }
+    2 + k as u16
+}
+
+// Of two ordinals, each 0 if there is none, the first.
+fn nearest(a: u16, b: u16) -> u16
+    ensures { λ r. ⌜ r ≡ nearest a b ⌝ }
+{
+    if a == 0 {
+        return b;
+    }
+    if b == 0 {
+        return a;
+    }
+    if b < a {
+        return b;
+    }
+    a
+}
+
 fn write_component(c: Component, out: &mut [u8]) -> u32
-    ensures { λ r. ⌜ (r ≡ givesOf (eqb (writableOf c) 1) (parameterText c) (now (out .entry)))
-        × (now (out .exit) ≡ leavesOf (eqb (writableOf c) 1) (parameterText c) (now (out .entry))) ⌝ }
+    ensures { λ r. ⌜ (r ≡ givesOf (inRecord (badOf c)) (parameterText c) (now (out .entry)))
+        × (now (out .exit) ≡ leavesOf (inRecord (badOf c)) (parameterText c) (now (out .entry))) ⌝ }
 {
     let w = wire::write_parameter(c, out);
     match w {
         Written::Done(n) => with_rest(0, n),
-        Written::Refused(n) => with_rest(n, 0),
+        Written::Refused(n, k) => with_rest(n, in_record(k) as usize),
     }
 }
 
+// A record in range is left to the writer of components. Else the first of both is told, and nothing is written.
 fn write_message(m: Message, id: u16, out: &mut [u8]) -> u32
-    ensures { λ r. ⌜ (r ≡ givesOf (sendable (Received m) id) (sentText (Received m) id) (now (out .entry)))
-        × (now (out .exit) ≡ leavesOf (sendable (Received m) id) (sentText (Received m) id) (now (out .entry))) ⌝ }
+    ensures { λ r. ⌜ (r ≡ sendGives (Received m) id (now (out .entry))) × (now (out .exit) ≡ sendLeaves (Received m) id (now (out .entry))) ⌝ }
 {
-    if rows::message_ok(m) {
-        return write_component(carried(m, id), out);
+    let c = carried(m, id);
+    let a = rows::message_bad(m);
+    if a == 0 {
+        return write_component(c, out);
     }
-    BAD_FIELD
+    let b = wire::bad_field(c);
+    let k = nearest(a as u16, in_record(b));
+    with_rest(BAD_FIELD, k as usize)
 }
 
 fn write_event(e: Event, id: u16, out: &mut [u8]) -> u32
-    ensures { λ r. ⌜ (r ≡ givesOf (sendable e id) (sentText e id) (now (out .entry)))
-        × (now (out .exit) ≡ leavesOf (sendable e id) (sentText e id) (now (out .entry))) ⌝ }
+    ensures { λ r. ⌜ (r ≡ sendGives e id (now (out .entry))) × (now (out .exit) ≡ sendLeaves e id (now (out .entry))) ⌝ }
 {
     match e {
-        Event::Opening(_, _, _) => BAD_FIELD,
-        Event::Ask(_, _) => BAD_FIELD,
+        Event::Opening(_, _, _) => BAD_FIELD as u32,
+        Event::Ask(_, _) => BAD_FIELD as u32,
         Event::Received(m) => write_message(m, id, out),
-        Event::FromAccess(_, _) => BAD_FIELD,
-        Event::Expiry => BAD_FIELD,
-        Event::Time(_) => BAD_FIELD,
+        Event::FromAccess(_, _) => BAD_FIELD as u32,
+        Event::Expiry => BAD_FIELD as u32,
+        Event::Time(_) => BAD_FIELD as u32,
     }
 }
 

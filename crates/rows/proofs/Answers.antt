@@ -4,6 +4,7 @@ use mathlib.Core.Path.{_≡_, refl, sym, _∙_, ap}
 use mathlib.Core.Bool.{Bool, true, false}
 use Prim.Native.Nat.{ℕ}
 use lib.Dec.{eqb}
+use borrow.Author.Tests.{eq-eqb, ne-eqb}
 use Rattle.meters.specs.declared.Metered.{Metered}
 use Rattle.meters.specs.declared.Metered.the-variants.{Done, NoPayer, TooMuch}
 use Rattle.meters.specs.declared.Meters.{Meters}
@@ -11,7 +12,7 @@ use Rattle.rows.specs.Find.{rowForOf}
 use Rattle.rows.specs.Perform.{refusedAt, refusedOf, followsOf, settledOf, performOf}
 use Rattle.rows.specs.Read.{readOf, cueOf, termsOf}
 use Rattle.rows.specs.Rows.{planOf}
-use Rattle.rows.specs.Step.{ifRow, takesOf, ifInRange, isOpening, isUnopened, ifTimely, ifCall, stepOf}
+use Rattle.rows.specs.Step.{ifRow, takesOf, ifInRange, isOpening, isUnopened, untimelyOf, inTime, ifTimely, ifCall, stepOf}
 use Rattle.rows.specs.Valid.{pickℕ, validOf, eventOk, badFieldOf}
 use Rattle.rows.specs.Why.{isRow, rowIn, rowEver, whyOf}
 use Rattle.rows.specs.declared.Call.{Call}
@@ -185,3 +186,15 @@ module _ (c : Call) (e : Event) (r : Reading) (q : Cue) (x : Row) (g : r ≡ rea
 
   pub row-missing : (a : Bool) → a ≡ isRow x → a ≡ false → refusedOf (whyOf (c .side .role) (c .stand .phase) (cueOf (readOf e))) c ≡ takesOf c e
   row-missing a j k = sym (ap (λ (b : Bool). ifRow b found c (readOf e)) (is-found a false j k))
+
+-- .. and before it, whether the event comes in its time
+module _ (c : Call) (e : Event) (v : validOf c ≡ true) (n : ℕ) (g : n ≡ untimelyOf (isUnopened (c .stand .phase)) (isOpening e)) where
+  in-time : (b : Bool) → eqb n 0 ≡ b → inTime b n c e ≡ stepOf c e
+  in-time b h =
+      sym (ap (λ (x : Bool). ifCall x c e) v ∙ ap (λ (k : ℕ). inTime (eqb k 0) k c e) (sym g) ∙ ap (λ (x : Bool). inTime x n c e) h)
+
+  pub step-timely : n ≡ 0 → ifInRange (eventOk e) c e ≡ stepOf c e
+  step-timely h = in-time true (eq-eqb n 0 h)
+
+  pub step-untimely : (n ≡ 0 → ⊥) → refusedOf n c ≡ stepOf c e
+  step-untimely h = in-time false (ne-eqb n 0 h)

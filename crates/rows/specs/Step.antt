@@ -2,6 +2,7 @@
 -- Assumes nothing.
 use Prim.Native.Nat.{ℕ}
 use mathlib.Core.Bool.{Bool, true, false}
+use lib.Dec.{eqb}
 use Rattle.rows.specs.Find.{rowForOf}
 use Rattle.rows.specs.Numbers.{badField, notACall, beforeOpening, openedBefore, iam, anm, rel, fac}
 use Rattle.rows.specs.Perform.{at, refusedAt, refusedOf, performOf}
@@ -75,12 +76,20 @@ isUnopened Setup = false
 isUnopened Answered = false
 isUnopened Cleared = false
 
--- before the opening, an opening and nothing else: 17; after it, no other: 18. "17 and 18 before 3": whatever the event's fields
+-- before the opening, an opening and nothing else: 17; after it, no other: 18; 0 for what comes in its time
+abbrev pub untimelyOf : Bool → Bool → ℕ
+untimelyOf true true = 0
+untimelyOf true false = beforeOpening
+untimelyOf false true = openedBefore
+untimelyOf false false = 0
+
+-- "17 and 18 before 3": whatever the event's fields
+abbrev pub inTime : Bool → ℕ → Call → Event → Outcome
+inTime true n c e = ifInRange (eventOk e) c e
+inTime false n c e = refusedOf n c
+
 abbrev pub ifTimely : Bool → Bool → Call → Event → Outcome
-ifTimely true true c e = ifInRange (eventOk e) c e
-ifTimely true false c e = refusedOf beforeOpening c
-ifTimely false true c e = refusedOf openedBefore c
-ifTimely false false c e = ifInRange (eventOk e) c e
+ifTimely unopened opening c e = inTime (eqb (untimelyOf unopened opening) 0) (untimelyOf unopened opening) c e
 
 -- what is no call state: 9, before all else
 abbrev pub ifCall : Bool → Call → Event → Outcome

@@ -1,6 +1,6 @@
 // One step of a call.
 ghost use mathlib.Core.Path.{_≡_};
-ghost use Rattle.rows.specs.Step.{unopenedCall, totalOf, takesOf, ifInRange, isOpening, isUnopened, stepOf};
+ghost use Rattle.rows.specs.Step.{unopenedCall, totalOf, takesOf, ifInRange, isOpening, isUnopened, untimelyOf, stepOf};
 ghost use Rattle.rows.specs.Valid.{eventOk};
 use crate::ABSENT;
 use crate::Call;
@@ -103,22 +103,28 @@ impl Call {
         let stand = self.stand;
         let phase = stand.phase;
         if valid::valid(self) {
-            if is_unopened(phase) {
-                if is_opening(e) {
-                    self.ranged(e)
-                } else {
-                    self.refused(BEFORE_OPENING)
-                }
+            let early = untimely(phase, e);
+            if early == 0 {
+                self.ranged(e)
             } else {
-                if is_opening(e) {
-                    self.refused(OPENED_BEFORE)
-                } else {
-                    self.ranged(e)
-                }
+                self.refused(early)
             }
         } else {
             self.refused(NOT_A_CALL)
         }
+    }
+}
+
+// 17 or 18, or 0 where the event comes in its time.
+fn untimely(phase: Phase, e: Event) -> u8
+    ensures { λ out. ⌜ out ≡ untimelyOf (isUnopened phase) (isOpening e) ⌝ }
+{
+    let first = is_unopened(phase);
+    let opens = is_opening(e);
+    if first {
+        if opens { 0 } else { BEFORE_OPENING }
+    } else {
+        if opens { OPENED_BEFORE } else { 0 }
     }
 }
 

@@ -18,6 +18,7 @@ mod writer;
 pub use components::read_component;
 pub use parameters::framed;
 pub use parameters::read_parameter;
+pub use writable::bad_field;
 pub use writer::write_component;
 pub use writer::write_parameter;
 

@@ -8,7 +8,8 @@ use lib.ListN.{length}
 use Rattle.text.specs.Text.{Put, ascii}
 use Rattle.text.proofs.Laws.{put-none, put-after, put-as}
 use Rattle.wire.specs.Grammar.{componentOf}
-use Rattle.wire.specs.Texts.{componentText, writableOf, writtenOf, leavesOf}
+use Rattle.wire.specs.Texts.{componentText, writtenOf, leavesOf}
+use Rattle.wire.specs.Writable.{badOf}
 use Rattle.wire.specs.Parameters.{Parameter, refused, holds, before, onward, walkOf, framedOf, heldIn, parameterOf, toldOf}
 use Rattle.wire.specs.declared.Answer.{Answer}
 use Rattle.wire.specs.declared.Component.{Component}
@@ -23,7 +24,7 @@ use Rattle.wireline.specs.declared.Parsed.{Parsed}
 -- ---- a line's component, written
 
 pub wrote-as : (line old new : List ℕ) (f : ℕ) (c : Component) (w : Written) (p : Parsed) → Right line p → p ≡ Parsed.Known f c
-    → (w ≡ writtenOf (writableOf c) (componentText c) old) × (new ≡ leavesOf (writableOf c) (componentText c) old)
+    → (w ≡ writtenOf (badOf c) (componentText c) old) × (new ≡ leavesOf (badOf c) (componentText c) old)
     → Written-as line old new w
 wrote-as line old new f c w p r e (a, b) =
     record { forms = f; component = c; said = subst (Right line) e r; answer = a; left = b }

@@ -3,7 +3,8 @@
 use mathlib.Core.Path.{_≡_}
 use mathlib.Core.List.{List}
 use Prim.Native.Nat.{ℕ}
-use Rattle.wire.specs.Texts.{componentText, writableOf, writtenOf, leavesOf}
+use Rattle.wire.specs.Texts.{componentText, writtenOf, leavesOf}
+use Rattle.wire.specs.Writable.{badOf}
 use Rattle.wire.specs.declared.Component.{Component}
 use Rattle.wire.specs.declared.Written.{Written}
 use Rattle.wireline.specs.Lines.{lineIn}
@@ -20,8 +21,8 @@ pub record Written-as (line old new : List ℕ) (w : Written) : Type 0 where
   pub forms : ℕ
   pub component : Component
   pub said : line ≡ lineIn forms component
-  pub answer : w ≡ writtenOf (writableOf component) (componentText component) old
-  pub left : new ≡ leavesOf (writableOf component) (componentText component) old
+  pub answer : w ≡ writtenOf (badOf component) (componentText component) old
+  pub left : new ≡ leavesOf (badOf component) (componentText component) old
 
 abbrev pub Wrote : List ℕ → List ℕ → List ℕ → Done → Type 0
 Wrote line old new Done.Unknown = new ≡ old

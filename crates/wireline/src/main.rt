@@ -201,7 +201,7 @@ fn tell_written(out: &[u8], w: Written)
     requires { ⌜ length (now out) ≤ 65536 ⌝ }
 {
     match w {
-        Written::Refused(n) => tell_refused(n),
+        Written::Refused(n, _) => tell_refused(n),
         Written::Done(n) => tell_front(out, n),
     }
 }

@@ -8,4 +8,4 @@ rev-write-expiry-spec =
     tie.close
     (tie.spec
     (λ c. λ κs. search needs) (λ c. λ κs. search needs) (λ c. search needs)
-    (λ c. numbered-as _ _ _ _ _ (c .number-of .ensures) (c .before .before .before .write-expiry .ensures)))
+    (λ c. numbered-as _ _ _ _ _ (c .gives-back .ensures) (c .before .before .before .write-expiry .ensures)))

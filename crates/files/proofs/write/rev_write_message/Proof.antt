@@ -9,7 +9,7 @@ returns c =
     let m = d .before .before in
     passed-as _ _ _ _ _ _
     (message-made _ _ _ _ _ _ _ _ _ _ _ (m .component-of .ensures) (m .before .before .number-with .ensures) (m .before .number-with2 .ensures))
-    (c .number-of .ensures) (d .write-message .ensures)
+    (c .gives-back .ensures) (d .write-message .ensures)
 
 pub rev-write-message-spec : {M : Type 1} → statement M
 rev-write-message-spec =

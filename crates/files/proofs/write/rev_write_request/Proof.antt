@@ -8,4 +8,4 @@ rev-write-request-spec =
     tie.close
     (tie.spec
     (λ c. λ κs. search needs) (λ c. λ κs. search needs) (λ c. λ κs. search needs) (λ c. search needs)
-    (λ c. let d = c .before .before .before in passed-as _ _ _ _ _ _ (ask-made _ _ _ (d .before .before .number-with .ensures)) (c .number-of .ensures) (d .write-ask .ensures)))
+    (λ c. let d = c .before .before .before in passed-as _ _ _ _ _ _ (ask-made _ _ _ (d .before .before .number-with .ensures)) (c .gives-back .ensures) (d .write-ask .ensures)))

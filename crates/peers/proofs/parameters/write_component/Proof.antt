@@ -32,7 +32,7 @@ same-length-2 c = search needs
 
 returns-2 : tie.Need-returns-2
 returns-2 c =
-    component-not _ _ _ _ (c .before .before .before .before .before .before .write-parameter .ensures) _ _
+    component-not _ _ _ _ (c .before .before .before .before .before .before .write-parameter .ensures) _ _ _
     (c .before .before .w2 .given .1) (c .with-rest2 .ensures)
 
 pub write-component-spec : {M : Type 1} → statement M
