@@ -5,7 +5,7 @@ use mathlib.Core.Path.{_≡_, refl, sym, _∙_, ap}
 use mathlib.Core.Bool.{Bool, true, false, _&&_, _||_, not}
 use Prim.Native.Nat.{ℕ}
 use Rattle.rows.specs.Valid.{pickℕ}
-use Rattle.rows.specs.Why.{somePhase, rowIn, rowEver, whyOf, hasRow, hasEver}
+use Rattle.rows.specs.Why.{somePhase, rowIn, rowEver, whyOf, smallHas, smallEver}
 use Rattle.rows.specs.declared.Asked.{Asked}
 use Rattle.rows.specs.declared.Cue.{Cue}
 use Rattle.rows.specs.declared.Heard.{Heard}
@@ -41,10 +41,10 @@ cue k q h a = record { kind = k; asked = q; heard = h; told = a }
 
 -- both tables give the same
 abbrev Same : Role → Phase → Cue → Type 0
-Same r p e = rowIn r p e ≡ hasRow r p e
+Same r p e = rowIn r p e ≡ smallHas r p e
 
 abbrev test : Role → Phase → Cue → Bool
-test r p e = alike (rowIn r p e) (hasRow r p e)
+test r p e = alike (rowIn r p e) (smallHas r p e)
 
 -- with these words of a request, of the access, of a component
 abbrev request : Bool → Bool → Bool → Bool → Bool → Asked
@@ -188,25 +188,25 @@ same-table Originating Answered e = in-originating-answered (e .kind) (e .asked)
 same-table Destination Answered e = in-destination-answered (e .kind) (e .asked) (e .heard) (e .told)
 same-table r Cleared e = in-cleared r (e .kind) (e .asked) (e .heard) (e .told)
 
-same-ever : (r : Role) (e : Cue) → rowEver r e ≡ hasEver r e
+same-ever : (r : Role) (e : Cue) → rowEver r e ≡ smallEver r e
 same-ever r e =
     ap (λ (b : Bool). b || (rowIn r Null e || (rowIn r Setup e || (rowIn r Answered e || rowIn r Cleared e)))) (same-table r Unopened e)
-    ∙ ap (λ (b : Bool). hasRow r Unopened e || (b || (rowIn r Setup e || (rowIn r Answered e || rowIn r Cleared e)))) (same-table r Null e)
-    ∙ ap (λ (b : Bool). hasRow r Unopened e || (hasRow r Null e || (b || (rowIn r Answered e || rowIn r Cleared e)))) (same-table r Setup e)
-    ∙ ap (λ (b : Bool). hasRow r Unopened e || (hasRow r Null e || (hasRow r Setup e || (b || rowIn r Cleared e)))) (same-table r Answered e)
-    ∙ ap (λ (b : Bool). hasRow r Unopened e || (hasRow r Null e || (hasRow r Setup e || (hasRow r Answered e || b)))) (same-table r Cleared e)
+    ∙ ap (λ (b : Bool). smallHas r Unopened e || (b || (rowIn r Setup e || (rowIn r Answered e || rowIn r Cleared e)))) (same-table r Null e)
+    ∙ ap (λ (b : Bool). smallHas r Unopened e || (smallHas r Null e || (b || (rowIn r Answered e || rowIn r Cleared e)))) (same-table r Setup e)
+    ∙ ap (λ (b : Bool). smallHas r Unopened e || (smallHas r Null e || (smallHas r Setup e || (b || rowIn r Cleared e)))) (same-table r Answered e)
+    ∙ ap (λ (b : Bool). smallHas r Unopened e || (smallHas r Null e || (smallHas r Setup e || (smallHas r Answered e || b)))) (same-table r Cleared e)
 
 -- ---- So the code's answers are those asked for
 
-by-classes : (r : Role) (p : Phase) (e : Cue) (a b : Bool) → hasRow r p e ≡ a → hasEver r e ≡ b → pickℕ a 16 (pickℕ b 15 1) ≡ whyOf r p e
+by-classes : (r : Role) (p : Phase) (e : Cue) (a b : Bool) → smallHas r p e ≡ a → smallEver r e ≡ b → pickℕ a 16 (pickℕ b 15 1) ≡ whyOf r p e
 by-classes r p e a b i j =
     sym (ap (λ (x : Bool). pickℕ x 16 (pickℕ (rowEver r e) 15 1)) (same-table r p e ∙ i) ∙ ap (λ (x : Bool). pickℕ a 16 (pickℕ x 15 1)) (same-ever r e ∙ j))
 
-pub is-16 : (r : Role) (p : Phase) (e : Cue) → hasRow r p e ≡ true → 16 ≡ whyOf r p e
-is-16 r p e h = by-classes r p e true (hasEver r e) h refl
+pub is-16 : (r : Role) (p : Phase) (e : Cue) → smallHas r p e ≡ true → 16 ≡ whyOf r p e
+is-16 r p e h = by-classes r p e true (smallEver r e) h refl
 
-pub is-15 : (r : Role) (p : Phase) (e : Cue) → hasRow r p e ≡ false → hasEver r e ≡ true → 15 ≡ whyOf r p e
+pub is-15 : (r : Role) (p : Phase) (e : Cue) → smallHas r p e ≡ false → smallEver r e ≡ true → 15 ≡ whyOf r p e
 is-15 r p e h i = by-classes r p e false true h i
 
-pub is-1 : (r : Role) (p : Phase) (e : Cue) → hasRow r p e ≡ false → hasEver r e ≡ false → 1 ≡ whyOf r p e
+pub is-1 : (r : Role) (p : Phase) (e : Cue) → smallHas r p e ≡ false → smallEver r e ≡ false → 1 ≡ whyOf r p e
 is-1 r p e h i = by-classes r p e false false h i

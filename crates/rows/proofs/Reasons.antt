@@ -7,12 +7,11 @@ use Prim.Native.Nat.{ℕ}
 use lib.Dec.{eqb}
 use borrow.Author.Tests.{eqb-true, eq-eqb}
 use Rattle.meters.specs.Meters.{changeOf}
-use Rattle.rows.specs.Bill.{pick}
 use Rattle.rows.specs.Find.{rowForOf}
 use Rattle.rows.specs.Perform.{refusedAt, refusedOf, performIf}
 use Rattle.rows.specs.Read.{askedOf, toldOf, heardOf, kindOf, readOf, cueOf, termsOf}
-use Rattle.rows.specs.Reasons.{Looked, rowAt, HasRowIn, Never, OnlyElsewhere, OtherState, reason, SameWord, no-component, an-invoke, a-result}
-use Rattle.rows.specs.Reasons.{an-error, a-reject, SameEvent, an-opening, a-request, a-message, a-word, an-expiry, a-time}
+use Rattle.rows.specs.Reasons.{Looked, rowAt, HasRowIn, Never, OnlyElsewhere, OtherState, reason, SameComponent, no-component, an-invoke, a-result}
+use Rattle.rows.specs.Reasons.{an-error, a-reject, SameEvent, an-opening, a-request, a-message, an-access, an-expiry, a-time}
 use Rattle.rows.specs.Step.{ifRow, takesOf, ifInRange, isOpening, isUnopened, ifTimely, ifCall, stepOf}
 use Rattle.rows.specs.Valid.{pickℕ, placedOf, validOf, eventOk, badFieldOf}
 use Rattle.rows.specs.Why.{isRow, someState, somePhase, rowIn, rowEver, whyOf}
@@ -34,7 +33,8 @@ use Rattle.rows.specs.declared.RevState.the-variants.{WaitCalled}
 use Rattle.rows.specs.declared.Role.{Role}
 use Rattle.rows.specs.declared.Role.the-variants.{Originating, Destination}
 use Rattle.rows.specs.declared.Row.{Row}
-use Rattle.rows.proofs.Answers.{planFor, performed, settled, by-why}
+use Rattle.rows.specs.declared.Row.the-variants.{NoRow}
+use Rattle.rows.proofs.Answers.{planFor, performed, settled, row-or-none, by-why}
 use Rattle.rows.proofs.Found.{row-plans}
 use Rattle.rows.proofs.Progress.{valid-place}
 use Rattle.rows.proofs.Truth.{both, differ, either, left, or-true, right}
@@ -245,6 +245,15 @@ which-phase f h =
     either (f Null) _ h (λ i. (Null, i)) (λ h.
     either (f Setup) _ h (λ i. (Setup, i)) (λ h. either (f Answered) _ h (λ i. (Answered, i)) (λ i. (Cleared, i)))))
 
+is-row : (x : Row) → (x ≡ NoRow → ⊥) → isRow x ≡ true
+is-row x = row-or-none (λ (y : Row). (y ≡ NoRow → ⊥) → isRow y ≡ true) x (λ h i. h) (λ i. absurd (i refl))
+
+not-none : (x : Row) → isRow x ≡ true → x ≡ NoRow → ⊥
+not-none x h i = differ (sym (ap isRow i) ∙ h)
+
+is-none : (x : Row) → isRow x ≡ false → x ≡ NoRow
+is-none x = row-or-none (λ (y : Row). isRow y ≡ false → y ≡ NoRow) x (λ h i. differ (sym i ∙ h)) (λ i. refl)
+
 module _ (r : Role) (e : Event) where
   abbrev cue : Cue
   cue = cueOf (readOf e)
@@ -252,10 +261,10 @@ module _ (r : Role) (e : Event) where
   has : (p : Phase) → rowIn r p cue ≡ true → HasRowIn r p e
   has p h =
       let w = which-state (λ s. placedOf r p s && isRow (rowAt r p s e)) h in
-      record { rev = w .0; placed = left (placedOf r p (w .0)) _ (w .1); row = right (placedOf r p (w .0)) _ (w .1) }
+      record { rev = w .0; placed = left (placedOf r p (w .0)) _ (w .1); row = not-none _ (right (placedOf r p (w .0)) _ (w .1)) }
 
   found : (p : Phase) → HasRowIn r p e → rowIn r p cue ≡ true
-  found p h = some-state (λ s. placedOf r p s && isRow (rowAt r p s e)) (h .rev) (both (h .placed) (h .row))
+  found p h = some-state (λ s. placedOf r p s && isRow (rowAt r p s e)) (h .rev) (both (h .placed) (is-row _ (h .row)))
 
   ever : (p : Phase) → HasRowIn r p e → rowEver r cue ≡ true
   ever p h = some-phase (λ q. rowIn r q cue) p (found p h)
@@ -300,7 +309,7 @@ module _ (c : Call) (e : Event) where
 
   -- a call's own place is one that 01 allows
   here : Looked c e → isRow (row c e) ≡ true → HasRowIn R P e
-  here l h = record { rev = c .stand .rev; placed = valid-place c (l .valid); row = h }
+  here l h = record { rev = c .stand .rev; placed = valid-place c (l .valid); row = not-none _ h }
 
   -- where nothing was found the number is what the tables have
   unfound : Looked c e → isRow (row c e) ≡ false → stepOf c e .number ≡ whyOf R P (cueOf (readOf e))
@@ -338,22 +347,22 @@ module _ (c : Call) (e : Event) where
   pub sixteen-exactly : (stepOf c e .number ≡ 16) ↔ (Looked c e × OtherState R P (c .stand .rev) e)
   sixteen-exactly = (
     by-number c e 16 refl (λ v. not-equal 9 16 refl) (λ v u i. not-equal 17 16 refl) (λ v u i. not-equal 18 16 refl) (λ v t k. not-equal 3 16 refl)
-        (λ l w h. (l, (w, sixteen R e P (rowIn R P (cueOf (readOf e))) refl h))),
+        (λ l w h. (l, (is-none _ w, sixteen R e P (rowIn R P (cueOf (readOf e))) refl h))),
     given,
   )
     where
       given : Looked c e × OtherState R P (c .stand .rev) e → stepOf c e .number ≡ 16
       given (l, (w, i)) =
-          unfound l w ∙ ap (λ (b : Bool). pickℕ b 16 (pickℕ (rowEver R (cueOf (readOf e))) 15 1)) (found R e P i)
+          unfound l (ap isRow w) ∙ ap (λ (b : Bool). pickℕ b 16 (pickℕ (rowEver R (cueOf (readOf e))) 15 1)) (found R e P i)
 
 -- ---- What the reason depends on
 
 -- by whether the call was opened, whether the event is an opening, whether a row was found, and else why
 abbrev reasonAt : Bool → Bool → Bool → ℕ → ℕ
-reasonAt true true w n = pick w 0 n
+reasonAt true true w n = pickℕ w 0 n
 reasonAt true false w n = 17
 reasonAt false true w n = 18
-reasonAt false false w n = pick w 0 n
+reasonAt false false w n = pickℕ w 0 n
 
 row-no-reason : (n : ℕ) → ofARow n ≡ true → reason n ≡ 0
 row-no-reason n h =
@@ -366,11 +375,11 @@ reasonBy r p s q o = reasonAt (isUnopened p) o (isRow (rowForOf r p s q)) (whyOf
 
 module _ (c : Call) (e : Event) (v : validOf c ≡ true) (k : eventOk e ≡ true) where
   of-the-row : (b : Bool) → isRow (row c e) ≡ b →
-      reason (ifRow b (row c e) c (readOf e) .number) ≡ pick b 0 (whyOf (c .side .role) (c .stand .phase) (cueOf (readOf e)))
+      reason (ifRow b (row c e) c (readOf e) .number) ≡ pickℕ b 0 (whyOf (c .side .role) (c .stand .phase) (cueOf (readOf e)))
   of-the-row true h = row-no-reason (performed c e .number) (row-number c e h)
   of-the-row false h = by-why (λ (n : ℕ). reason n ≡ n) (c .side .role) (c .stand .phase) (cueOf (readOf e)) refl refl refl
 
-  ranged-reason : reason (ifInRange (eventOk e) c e .number) ≡ pick (isRow (row c e)) 0 (whyOf (c .side .role) (c .stand .phase) (cueOf (readOf e)))
+  ranged-reason : reason (ifInRange (eventOk e) c e .number) ≡ pickℕ (isRow (row c e)) 0 (whyOf (c .side .role) (c .stand .phase) (cueOf (readOf e)))
   ranged-reason = ap (λ (b : Bool). reason (ifInRange b c e .number)) k ∙ of-the-row (isRow (row c e)) refl
 
   in-its-time : (a b : Bool) →
@@ -385,7 +394,7 @@ module _ (c : Call) (e : Event) (v : validOf c ≡ true) (k : eventOk e ≡ true
 
 -- an opening's role and flags are not looked at
 opening-reason : (r : Role) (p : Phase) (s : RevState) (k f : ℕ) (n : Number) →
-    reasonBy r p s (cueOf (readOf (Opening k f n))) true ≡ pick (isUnopened p) 0 18
+    reasonBy r p s (cueOf (readOf (Opening k f n))) true ≡ pickℕ (isUnopened p) 0 18
 opening-reason Originating Unopened s k f n = refl
 opening-reason Originating Null s k f n = refl
 opening-reason Originating Setup s k f n = refl
@@ -397,7 +406,7 @@ opening-reason Destination Setup s k f n = refl
 opening-reason Destination Answered s k f n = refl
 opening-reason Destination Cleared s k f n = refl
 
-same-heard : {x y : Component} → SameWord x y → heardOf x ≡ heardOf y
+same-heard : {x y : Component} → SameComponent x y → heardOf x ≡ heardOf y
 same-heard no-component = refl
 same-heard an-invoke = refl
 same-heard a-result = refl
@@ -410,7 +419,7 @@ same-by r p s (an-opening {r = k} {f = g} {r′ = k′} {f′ = g′} {n = n} {n
 same-by r p s a-request = refl
 same-by r p s (a-message {k = k} w) =
     ap (λ (h : Heard). reasonBy r p s (record { kind = kindOf k; asked = askedOf 0; heard = h; told = toldOf 0 }) false) (same-heard w)
-same-by r p s a-word = refl
+same-by r p s an-access = refl
 same-by r p s an-expiry = refl
 same-by r p s a-time = refl
 

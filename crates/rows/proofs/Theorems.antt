@@ -65,7 +65,7 @@ refusal-changes-nothing = Refusals.refusal-changes-nothing
 pub refusal-is : (c : Call) (e : Event) → (stepOf c e .number ≡ 0 → ⊥) → stepOf c e ≡ refusedAt (stepOf c e .number) (stepOf c e .field) c
 refusal-is = Refusals.refusal-is
 
--- 17 is given for an event before the opening, and 18 for another opening, whatever their fields, and for nothing else ..
+-- At a call, 17 is given for an event before the opening and 18 for an opening after it, whatever the fields, and for nothing else ..
 pub seventeen-exactly : (c : Call) (e : Event) →
     (stepOf c e .number ≡ 17) ↔ ((validOf c ≡ true) × (isUnopened (c .stand .phase) ≡ true) × (isOpening e ≡ false))
 seventeen-exactly = Reasons.seventeen-exactly
@@ -82,11 +82,11 @@ three-exactly = Reasons.three-exactly
 pub three-tells : (c : Call) (e : Event) → stepOf c e .number ≡ 3 → stepOf c e .field ≡ badFieldOf e
 three-tells = Reasons.three-tells
 
--- .. is that of the first field out of range, and every field before it is in range; such a field has no other ..
+-- .. is that of the first field out of range, with every field before it in range, and of no other field ..
 pub first-bad-exactly : (e : Event) (k : ℕ) → (badFieldOf e ≡ suc k) ↔ FirstOut (rangesOf e) k
 first-bad-exactly = Ranges.first-bad-exactly
 
--- .. it is 0 exactly where every field is in range, and no other number has one.
+-- .. it is 0 exactly where every field is in range, and beside every number but 3 it is 0.
 pub none-bad-exactly : (e : Event) → (badFieldOf e ≡ 0) ↔ (eventOk e ≡ true)
 none-bad-exactly = Ranges.none-bad-exactly
 
@@ -215,7 +215,8 @@ pub invoke-no-row-exactly : (c : Call) (m : Message) → validOf c ≡ true → 
     saysNoRow (stepOf c (Received m) .number) ≡ not (invokeHasRow (c .side .role) (c .stand .phase) (c .stand .rev) (m .kind) (m .component))
 invoke-no-row-exactly = Requests.invoke-no-row-exactly
 
--- ---- Why there was no row (02 #106). `Looked`: the call is one, it was opened unless the event is an opening, and the fields are in range
+-- ---- Why there was no row (02 #106). `Looked`: the call is one, it was opened exactly where the event is no opening, and the fields are in
+-- range
 
 -- 1 is given exactly where the role has no row for the event in any phase and REV state ..
 pub one-exactly : (c : Call) (e : Event) → (stepOf c e .number ≡ 1) ↔ (Looked c e × Never (c .side .role) e)
@@ -230,8 +231,8 @@ pub sixteen-exactly : (c : Call) (e : Event) →
     (stepOf c e .number ≡ 16) ↔ (Looked c e × OtherState (c .side .role) (c .stand .phase) (c .stand .rev) e)
 sixteen-exactly = Reasons.sixteen-exactly
 
--- Which of 1, 15, 16, 17 and 18 is given, or none of them (`reason`), depends on role, phase, REV state and what the event is (`SameEvent`),
--- and on nothing else: no flag, part, cause, error number, telephone number, seconds, meters or what is pending.
+-- Of events in range, at calls: which of 1, 15, 16, 17 and 18 is given, or none of them (`reason`), depends on role, phase, REV state and
+-- what the event is (`SameEvent`), and on nothing else: no flag, part, cause, error number, telephone number, seconds, meters or what is pending.
 pub same-reason : (c d : Call) (e f : Event) → c .side .role ≡ d .side .role → c .stand .phase ≡ d .stand .phase → c .stand .rev ≡ d .stand .rev →
     validOf c ≡ true → validOf d ≡ true → eventOk e ≡ true → eventOk f ≡ true → SameEvent e f →
     reason (stepOf c e .number) ≡ reason (stepOf d f .number)
@@ -249,7 +250,7 @@ billed = Whole.billed
 pub opens-in-range : (f : ℕ) (own : Number) → eventOk (Opening 0 f own) ≡ true → opening f own .number ≡ 0
 opens-in-range = Whole.opens-in-range
 
--- The same from before the opening; what comes before it is refused with 17, or an opening with 3.
+-- The same from before the opening; what comes before it is refused with 17 or 3.
 pub line-billed : (es : List Event) → Told (run unopenedCall es) (line (history unopenedCall es))
 line-billed = Opened.line-billed
 

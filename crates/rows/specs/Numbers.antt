@@ -24,13 +24,14 @@ notACall = 9
 abbrev pub nobodyPays : ℕ
 nobodyPays = 10
 
--- 02 #106, beside 01's "Numbers given back": "15 is for the wrong phase", "16 for the wrong REV state", "An event before the opening gets 17 and a second opening 18"
+-- 02 #106, beside 01's "Numbers given back": "15 is for the wrong phase", "16 for the wrong REV state"
 abbrev pub wrongPhase : ℕ
 wrongPhase = 15
 
 abbrev pub wrongState : ℕ
 wrongState = 16
 
+-- 02 #106, beside 01's "Numbers given back": "An event before the opening gets 17 and a second opening 18"
 abbrev pub beforeOpening : ℕ
 beforeOpening = 17
 

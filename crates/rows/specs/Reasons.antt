@@ -6,13 +6,11 @@ use mathlib.Core.Bool.{Bool, true, false, _||_}
 use mathlib.Core.List.{List, [], _∷_}
 use mathlib.Core.Path.{_≡_}
 use lib.Dec.{eqb}
-use Rattle.rows.specs.Bill.{pick}
 use Rattle.rows.specs.Find.{rowForOf}
 use Rattle.rows.specs.Promises.{sent}
 use Rattle.rows.specs.Read.{readOf, cueOf}
 use Rattle.rows.specs.Step.{isOpening, isUnopened}
-use Rattle.rows.specs.Valid.{placedOf, validOf, eventOk}
-use Rattle.rows.specs.Why.{isRow}
+use Rattle.rows.specs.Valid.{pickℕ, placedOf, validOf, eventOk}
 use Rattle.rows.specs.declared.Call.{Call}
 use Rattle.rows.specs.declared.Component.{Component}
 use Rattle.rows.specs.declared.Component.the-variants.{Absent, Invoke, Result, Error, Reject}
@@ -23,23 +21,26 @@ use Rattle.rows.specs.declared.Phase.{Phase}
 use Rattle.rows.specs.declared.RevState.{RevState}
 use Rattle.rows.specs.declared.Role.{Role}
 use Rattle.rows.specs.declared.Row.{Row}
+use Rattle.rows.specs.declared.Row.the-variants.{NoRow}
 
 -- ---- Why there was no row: proofs/Reasons.antt
 
--- the event is judged by the tables: the call is one, it is an opening or the call was opened, and its fields are in range
+-- the event is judged by the tables: the call is one, the event is an opening exactly where the call was not opened, and its fields are in
+-- range
 pub record Looked (c : Call) (e : Event) : Type 0 where
   pub valid : validOf c ≡ true
   pub timely : isUnopened (c .stand .phase) ≡ isOpening e
   pub ranged : eventOk e ≡ true
 
--- the row of this event at a place, and "the role has a row": in a place that 01 allows
+-- the row of this event at a place
 abbrev pub rowAt : Role → Phase → RevState → Event → Row
 rowAt r p s e = rowForOf r p s (cueOf (readOf e))
 
+-- "the role has a row": in a place that 01 allows
 pub record HasRowIn (r : Role) (p : Phase) (e : Event) : Type 0 where
   pub rev : RevState
   pub placed : placedOf r p rev ≡ true
-  pub row : isRow (rowAt r p rev e) ≡ true
+  pub row : rowAt r p rev e ≡ NoRow → ⊥
 
 -- "no row in this role at any time"
 abbrev pub Never : Role → Event → Type 0
@@ -51,27 +52,27 @@ OnlyElsewhere r p e = (HasRowIn r p e → ⊥) × ((q : Phase) × HasRowIn r q e
 
 -- "the wrong REV state": not here, but in this phase
 abbrev pub OtherState : Role → Phase → RevState → Event → Type 0
-OtherState r p s e = (isRow (rowAt r p s e) ≡ false) × HasRowIn r p e
+OtherState r p s e = (rowAt r p s e ≡ NoRow) × HasRowIn r p e
 
--- the reasons among the numbers
+-- the number where it is one of these reasons, else 0
 abbrev pub reason : ℕ → ℕ
-reason n = pick (eqb n 1 || (eqb n 15 || (eqb n 16 || (eqb n 17 || eqb n 18)))) n 0
+reason n = pickℕ (eqb n 1 || (eqb n 15 || (eqb n 16 || (eqb n 17 || eqb n 18)))) n 0
 
 -- "An event" is what the record says: kind, and request, or message with component and (invoke, result) operation, or the access's item.
 -- Two that are the same in this may differ in role, flags, numbers, cause, error, parts, Duration and seconds
-pub data SameWord : Component → Component → Type 0 where
-  no-component : {n m : ℕ} → SameWord (Absent n) (Absent m)
-  an-invoke : {n : ℕ} → SameWord (Invoke n) (Invoke n)
-  a-result : {n : ℕ} → SameWord (Result n) (Result n)
-  an-error : {n m : ℕ} → SameWord (Error n) (Error m)
-  a-reject : {n m : ℕ} → SameWord (Reject n) (Reject m)
+pub data SameComponent : Component → Component → Type 0 where
+  no-component : {n m : ℕ} → SameComponent (Absent n) (Absent m)
+  an-invoke : {n : ℕ} → SameComponent (Invoke n) (Invoke n)
+  a-result : {n : ℕ} → SameComponent (Result n) (Result n)
+  an-error : {n m : ℕ} → SameComponent (Error n) (Error m)
+  a-reject : {n m : ℕ} → SameComponent (Reject n) (Reject m)
 
 pub data SameEvent : Event → Event → Type 0 where
   an-opening : {r f r′ f′ : ℕ} {n n′ : Number} → SameEvent (Opening r f n) (Opening r′ f′ n′)
   a-request : {q : ℕ} {n n′ : Number} → SameEvent (Ask q n) (Ask q n′)
-  a-message : {k u u′ p p′ s s′ : ℕ} {x y : Component} {n n′ m m′ : Number} → SameWord x y →
+  a-message : {k u u′ p p′ s s′ : ℕ} {x y : Component} {n n′ m m′ : Number} → SameComponent x y →
       SameEvent (Received (sent k u x p n m s)) (Received (sent k u′ y p′ n′ m′ s′))
-  a-word : {a n n′ : ℕ} → SameEvent (FromAccess a n) (FromAccess a n′)
+  an-access : {a n n′ : ℕ} → SameEvent (FromAccess a n) (FromAccess a n′)
   an-expiry : SameEvent Expiry Expiry
   a-time : {s s′ : ℕ} → SameEvent (Time s) (Time s′)
 

@@ -319,7 +319,7 @@ calledAccepted Entire Transfer calling duration =  -- D47  3.5.2.4.5.1 b; 01, "a
 -- ---- Every row
 
 abbrev pub planOf : Row → Terms → Plan
-planOf NoRow t = refuses noRow  -- 01, number 1
+planOf NoRow t = refuses noRow  -- not asked: where there is no row, Step.antt says why
 planOf Opened t = quiet ToNull Keep FromOpening  -- G1  01, kind 1
 planOf TimeInSetup t = quiet Stay Keep AsHeld  -- G2  01, "only ANSWERED counts"
 planOf TimeCounts t = quiet Stay TimePasses AsHeld  -- G3  01, "one of them runs and takes all seconds"

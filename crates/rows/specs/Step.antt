@@ -76,7 +76,7 @@ isUnopened Setup = false
 isUnopened Answered = false
 isUnopened Cleared = false
 
--- before the opening, an opening and nothing else: 17; after it, no other: 18; 0 for what comes in its time
+-- before the opening only an opening is taken, else 17; after it none is, else 18; 0 for what comes in its time
 abbrev pub untimelyOf : Bool → Bool → ℕ
 untimelyOf true true = 0
 untimelyOf true false = beforeOpening

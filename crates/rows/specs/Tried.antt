@@ -1,5 +1,5 @@
 -- 01, "Calls to try": the histories marked P, as theorems about the definition; the second press of 02 #101; the totals of 02 #104; rooms
--- abroad, 02 #103; and calls that only a host hands in. Each computes.
+-- abroad, 02 #103; why there was no row and the first bad field, 02 #106; and calls that only a host hands in. Each computes.
 -- Assumes nothing.
 use Prim.Native.Nat.{ℕ, _+_}
 use mathlib.Core.Bool.{true, false}
@@ -20,7 +20,7 @@ use Rattle.rows.specs.declared.Act.the-variants.{NotifyAccepted, AccessS
 use Rattle.rows.specs.declared.Act.the-variants.{ChargeCalled, Stop}
 use Rattle.rows.specs.declared.Call.{Call}
 use Rattle.rows.specs.declared.Component.{Component}
-use Rattle.rows.specs.declared.Component.the-variants.{Absent, Invoke, Result, Error, Unknown}
+use Rattle.rows.specs.declared.Component.the-variants.{Absent, Invoke, Result, Error, Reject, Unknown}
 use Rattle.rows.specs.declared.Event.{Event}
 use Rattle.rows.specs.declared.Event.the-variants.{Opening, Ask, Received, FromAccess, Expiry, Time}
 use Rattle.rows.specs.declared.Message.{Message}
@@ -209,7 +209,7 @@ year-accepted = refl
 year-and-a-second : run (talked 31536000) (Time 1 ∷ []) ≡ line 2 Answered Idle 31536000 0 0 [] ∷ []
 year-and-a-second = refl
 
--- expiry in IDLE has no row: 01's 1, and since 02 #106 it is 16, for WAIT-ACTIVE has one
+-- expiry in IDLE has no row: 01's 1, by 02 #106 16, for WAIT-ACTIVE has one
 idle-expiry : run (talked 40) (Expiry ∷ []) ≡ line 16 Answered Idle 40 0 0 [] ∷ []
 idle-expiry = refl
 
@@ -355,10 +355,10 @@ pressed-at-set-up = refl
 
 -- ---- Why there was no row, 02 #106
 
--- before the opening, and at another one, whatever the fields; an opening with a bad field is 3
 abbrev idly : ℕ → Phase → Line
 idly n p = line n p Idle 0 0 0 []
 
+-- before the opening, and at another one, whatever the fields; an opening with a bad field is 3
 in-its-time : run unopenedCall (Expiry ∷ Time 86401 ∷ Opening 0 32 room ∷ Opening 0 8 room ∷ Opening 9 99 absent ∷ Opening 1 8 room ∷ [])
     ≡ idly 17 Unopened ∷ idly 17 Unopened ∷ idly 3 Unopened ∷ idly 0 Null ∷ idly 18 Null ∷ idly 18 Null ∷ []
 in-its-time = refl
@@ -401,6 +401,25 @@ fields-of-a-message : (field (Received (message 6 128 (Unknown 5 9) 128 absent a
     × (field (Received (message fac 0 (Invoke 3) calledPart absent absent 0)) ≡ 6)
     × (field (Received (message fac 0 (Invoke 3) calledPart absent room 0)) ≡ 0)
 fields-of-a-message = (refl, refl, refl, refl, refl, refl, refl, refl, refl, refl, refl)
+
+-- the ends of each range: 0 where every field is in it
+abbrev digits : ℕ → ℕ → Number
+digits count value = record { nature = National; count = count; value = value }
+
+ends : (field (Ask 0 (digits 15 999999999999999)) ≡ 0) × (field (Ask 0 (digits 16 0)) ≡ 2) × (field (Ask 0 (digits 7 10000000)) ≡ 2)
+    × (field (Ask 3 room) ≡ 2) × (field (FromAccess 0 0) ≡ 1) × (field (FromAccess 2 255) ≡ 0) × (field (FromAccess 1 1) ≡ 2)
+    × (field (FromAccess 3 1) ≡ 2) × (field (FromAccess 5 1) ≡ 2)
+ends = (refl, refl, refl, refl, refl, refl, refl, refl, refl)
+
+ends-of-a-message : (field (Received (plain 0 0 (Absent 0))) ≡ 1) × (field (Received (plain fac 127 (Absent 0))) ≡ 0)
+    × (field (Received (plain fac 0 (Absent 1))) ≡ 4) × (field (Received (plain fac 0 (Invoke 0))) ≡ 4)
+    × (field (Received (plain fac 0 (Result 0))) ≡ 4) × (field (Received (plain fac 0 (Result 3))) ≡ 0)
+    × (field (Received (plain fac 0 (Result 4))) ≡ 4) × (field (Received (plain fac 0 (Error 255))) ≡ 0)
+    × (field (Received (plain fac 0 (Reject 1))) ≡ 4)
+    × (field (Received (message fac 0 (Invoke 3) 127 room room 4294967295)) ≡ 0)
+    × (field (Received (message fac 0 (Invoke 3) 128 absent absent 0)) ≡ 5)
+    × (field (Received (message fac 0 (Invoke 3) calledPart room room 0)) ≡ 5)
+ends-of-a-message = (refl, refl, refl, refl, refl, refl, refl, refl, refl, refl, refl, refl)
 
 -- ---- STOP in D42 and D52: from an opening the far exchange pays in these states, but a host may hand in a call that the called user pays
 

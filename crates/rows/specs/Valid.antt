@@ -94,11 +94,12 @@ placedOf Originating Answered s = originatingAnswered s
 placedOf Destination Answered s = destinationAnswered s
 placedOf r Cleared s = idleOnly s
 
--- ten to the count, up to 15 digits
+-- one of two numbers
 abbrev pub pickℕ : Bool → ℕ → ℕ → ℕ
 pickℕ true a b = a
 pickℕ false a b = b
 
+-- ten to the count, up to 15 digits
 abbrev pub tenTo : ℕ → ℕ
 tenTo n = pickℕ (leb n 15) (10 ^ n) 0
 

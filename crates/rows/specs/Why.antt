@@ -179,15 +179,15 @@ destinationAnsweredHas Tells e = e .told .clears || (e .told .accepts || (e .tol
 destinationAnsweredHas Expires e = true
 destinationAnsweredHas Passes e = true
 
-abbrev pub hasRow : Role → Phase → Cue → Bool
-hasRow r Unopened e = unopenedHas (e .kind) e
-hasRow Originating Null e = originatingNullHas (e .kind) e
-hasRow Destination Null e = destinationNullHas (e .kind) e
-hasRow Originating Setup e = originatingSetupHas (e .kind) e
-hasRow Destination Setup e = destinationSetupHas (e .kind) e
-hasRow Originating Answered e = originatingAnsweredHas (e .kind) e
-hasRow Destination Answered e = destinationAnsweredHas (e .kind) e
-hasRow r Cleared e = false
+abbrev pub smallHas : Role → Phase → Cue → Bool
+smallHas r Unopened e = unopenedHas (e .kind) e
+smallHas Originating Null e = originatingNullHas (e .kind) e
+smallHas Destination Null e = destinationNullHas (e .kind) e
+smallHas Originating Setup e = originatingSetupHas (e .kind) e
+smallHas Destination Setup e = destinationSetupHas (e .kind) e
+smallHas Originating Answered e = originatingAnsweredHas (e .kind) e
+smallHas Destination Answered e = destinationAnsweredHas (e .kind) e
+smallHas r Cleared e = false
 
-abbrev pub hasEver : Role → Cue → Bool
-hasEver r e = somePhase (λ p. hasRow r p e)
+abbrev pub smallEver : Role → Cue → Bool
+smallEver r e = somePhase (λ p. smallHas r p e)

@@ -912,7 +912,7 @@ pub(crate) fn plan_of(row: Row, t: Terms) -> Plan
     let asked = t.asked;
     let correct = t.correct;
     match row {
-        Row::NoRow => refuses(NO_ROW), // 01, number 1
+        Row::NoRow => refuses(NO_ROW), // not asked: where there is no row, `takes` says why
         Row::Opened => quiet(Next::ToNull, Change::Keep, Register::FromOpening), // G1
         Row::TimeInSetup => quiet(Next::Stay, Change::Keep, Register::AsHeld), // G2
         Row::TimeCounts => quiet(Next::Stay, Change::TimePasses, Register::AsHeld), // G3

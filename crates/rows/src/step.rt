@@ -103,11 +103,11 @@ impl Call {
         let stand = self.stand;
         let phase = stand.phase;
         if valid::valid(self) {
-            let early = untimely(phase, e);
-            if early == 0 {
+            let number = untimely(phase, e);
+            if number == 0 {
                 self.ranged(e)
             } else {
-                self.refused(early)
+                self.refused(number)
             }
         } else {
             self.refused(NOT_A_CALL)

@@ -1,7 +1,7 @@
 // WHY there was no row: asked only of an event that found none, and by tables smaller than those that find rows, for a file may be full of
 // such events.
 ghost use mathlib.Core.Path.{_≡_};
-ghost use Rattle.rows.specs.Why.{isRow, whyOf, hasRow, hasEver, unopenedHas, originatingNullHas, originatingSetupHas};
+ghost use Rattle.rows.specs.Why.{isRow, whyOf, smallHas, smallEver, unopenedHas, originatingNullHas, originatingSetupHas};
 ghost use Rattle.rows.specs.Why.{originatingAnsweredHas, destinationNullHas, destinationSetupHas, destinationAnsweredHas};
 use crate::Cue;
 use crate::Kind;
@@ -206,7 +206,7 @@ fn destination_answered_has(e: Cue) -> bool
 
 // The role has a row for the event in this phase.
 fn has_row(r: Role, p: Phase, e: Cue) -> bool
-    ensures { λ out. ⌜ out ≡ hasRow r p e ⌝ }
+    ensures { λ out. ⌜ out ≡ smallHas r p e ⌝ }
 {
     match p {
         Phase::Unopened => unopened_has(e),
@@ -228,7 +228,7 @@ fn has_row(r: Role, p: Phase, e: Cue) -> bool
 
 // At any time.
 fn has_ever(r: Role, e: Cue) -> bool
-    ensures { λ out. ⌜ out ≡ hasEver r e ⌝ }
+    ensures { λ out. ⌜ out ≡ smallEver r e ⌝ }
 {
     let a = has_row(r, Phase::Unopened, e);
     let b = has_row(r, Phase::Null, e);
