@@ -1,7 +1,8 @@
 -- THE THEOREMS about the rows, each with its sentence, to be read alone. What they speak of is defined in specs/: Step.antt (`stepOf`,
 -- the answer to an event), Valid.antt (`validOf`, what is a call; `eventOk`, fields in range), History.antt (`run`, `history`: any list
--- of events, refused ones among them), Bill.antt (demand 3), Reasons.antt (why there was no row, the first bad field) and Promises.antt (the rest); `Shows` and `Told`, the records that say what the
--- meters show of a bill, stand in Whole.antt and Opened.antt. The files cited prove them.
+-- of events, refused ones among them), Bill.antt (demand 3), Reasons.antt (why there was no row, the first bad field) and Promises.antt
+-- (the rest); `Shows` and `Told`, the records that say what the meters show of a bill, stand in Whole.antt and Opened.antt. The files cited
+-- prove them.
 -- docs/STATEMENTS.md names a wrong program that each rules out.
 -- Assumes nothing.
 use mathlib.Core.Path.{_≡_, refl}

@@ -138,7 +138,8 @@ originatingAnsweredHas Asks e = e .asked .caseb || e .asked .reversal
 originatingAnsweredHas Iam e = false
 originatingAnsweredHas Answer e = false
 originatingAnsweredHas Rel e = true
-originatingAnsweredHas Fac e = e .heard .invokecalled || (e .heard .invoke || (e .heard .resultactive || (e .heard .failure || (e .heard .rejection || e .heard .alone))))
+originatingAnsweredHas Fac e =
+    e .heard .invokecalled || (e .heard .invoke || (e .heard .resultactive || (e .heard .failure || (e .heard .rejection || e .heard .alone))))
 originatingAnsweredHas Tells e = e .told .clears
 originatingAnsweredHas Expires e = true
 originatingAnsweredHas Passes e = true
@@ -174,7 +175,8 @@ destinationAnsweredHas Asks e = e .asked .caseb || (e .asked .casec || e .asked 
 destinationAnsweredHas Iam e = false
 destinationAnsweredHas Answer e = false
 destinationAnsweredHas Rel e = true
-destinationAnsweredHas Fac e = e .heard .invokeactive || (e .heard .invoke || (e .heard .resultcalled || (e .heard .failure || e .heard .rejection)))
+destinationAnsweredHas Fac e =
+    e .heard .invokeactive || (e .heard .invoke || (e .heard .resultcalled || (e .heard .failure || e .heard .rejection)))
 destinationAnsweredHas Tells e = e .told .clears || (e .told .accepts || (e .told .refuses || e .told .rejects))
 destinationAnsweredHas Expires e = true
 destinationAnsweredHas Passes e = true
