@@ -1,5 +1,5 @@
 #!/bin/sh
-# record.sh: what ./record writes and tells. Each line of tests/record.txt, with its bytes or its 3; lines that are not known; what is
+# record.sh: what ./record writes and tells. Each line of tests/record.txt, with its bytes or its 3 and field; lines not known; what is
 # skipped; a file and a text that are too long; and the event files of examples/, dumped and recorded again (tests/examples.sh has their
 # sources).
 set -eu
@@ -39,7 +39,7 @@ refuses() {
     echo "record: $1: NOT refused as it should be: status $got, $(wc -c <"$room/got") bytes; told: $(cat "$room/err")"
 }
 
-range="REFUSED 3: a field is out of its range"
+first="REFUSED 3: field 1 is out of its range"
 unknown="not known: no record has these words"
 full="REFUSED 8: the file would have more than 65,536 bytes"
 
@@ -50,9 +50,9 @@ grep -E '^[^#]' tests/record.txt >"$room/lines"
 while IFS= read -r line; do
     words=${line% = *} answer=${line##* = }
     printf '%s\n' "$words" >"$room/text"
-    if [ "$answer" = 3 ]; then
+    if [ "${answer% [1-7]}" = 3 ]; then
         printf 'EXPIRY\n# a remark\n\n%s\nEXPIRY\nno words\n' "$words" >"$room/text"
-        refuses "$words" "line 4: $range"
+        refuses "$words" "line 4: REFUSED 3: field ${answer#3 } is out of its range"
     else
         # shellcheck disable=SC2086 # a byte a word
         bytes $answer >"$room/wanted"
@@ -374,11 +374,11 @@ printf '# a remark\nRECORDS 1\nEXPIRY\n' >"$room/text"
 refuses "the first line of a dump, as the second" "line 2: $unknown"
 # the first bad line is told, whichever it is
 printf 'EXPIRY\nTIME 86401\nno words\n' >"$room/text"
-refuses "a field out of range, then words that are not known" "line 2: $range"
+refuses "a field out of range, then words that are not known" "line 2: $first"
 printf 'EXPIRY\nno words\nTIME 86401' >"$room/text"
 refuses "words that are not known, then a field out of range" "line 2: $unknown"
 printf 'EXPIRY\nTIME 86401' >"$room/text"
-refuses "a last line without a newline, out of range" "line 2: $range"
+refuses "a last line without a newline, out of range" "line 2: $first"
 
 # long lines: words that are known, and more; a remark
 long() {
@@ -408,7 +408,7 @@ refuses "a record more than that" "line 16385: $full"
 { expiries 16383 && echo "TIME 60"; } >"$room/text"
 refuses "a last record that is too long" "line 16384: $full"
 { expiries 16384 && echo "TIME 86401"; } >"$room/text"
-refuses "a record out of range where there is no room" "line 16385: $range"
+refuses "a record out of range where there is no room" "line 16385: $first"
 { expiries 16384 && echo "no words"; } >"$room/text"
 refuses "words that are not known where there is no room" "line 16385: $unknown"
 

@@ -1,8 +1,9 @@
 #!/bin/sh
 # records.sh [--count N] [--seed S]: generated event files (200 of seed 1 where it is not said), damaged ones among them, dumped by ./dump
 # and recorded by ./record. A file all of whose records are read, with each field in its range, comes back byte for byte. Of any other the
-# first record that is not so is told, by its line, and the records before it come back. Which record that is, ./listing says: 3, 5, 6 or
-# 7; a file whose listing is too long is left out. Needs cargo.
+# first record that is not so is told, by its line, with the field that is out of its range, and the records before it come back. Which
+# record and field that is, host/reference says: a listing has 17 and 18 before 3, and no field. A file that is too long is left out. Needs
+# cargo.
 set -eu
 cd "$(dirname "$0")/.."
 who=records.sh count=200 seed=1
@@ -12,13 +13,12 @@ room=target/records
 generate_files $room
 whole=0 parts=0 out=0 failed=0
 
-# told: what ./record is to tell of a dump, or nothing, by the listing. A record's line comes after the line that counts them.
+# told FILE: what ./record is to tell of its dump, or nothing. A record's line comes after the line that counts them.
 told() {
-    awk '$1 ~ /^[0-9]+$/ && ($2 == 3 || $2 == 5 || $2 == 6 || $2 == 7) {
+    $reference refused <"$1" | awk '{
         printf "record: line %d: ", $1 + 1
-        print $2 == 3 ? "REFUSED 3: a field is out of its range" : "not known: no record has these words"
-        exit
-    }' $room/listing >$room/told
+        print $2 == 3 ? "REFUSED 3: field " $3 " is out of its range" : "not known: no record has these words"
+    }' >$room/told
 }
 
 # back BYTES FILE: what $room/text says is so many bytes of the file
@@ -28,13 +28,12 @@ back() {
 }
 
 for file in "$room"/*.rev; do
-    ./listing "$file" >$room/listing
-    if grep -q REFUSED $room/listing; then
+    ./dump "$file" >$room/text
+    if grep -q REFUSED $room/text; then
         out=$((out + 1))
         continue
     fi
-    told
-    ./dump "$file" >$room/text
+    told "$file"
     if [ ! -s $room/told ]; then
         whole=$((whole + 1))
         back "$(wc -c <"$file")" "$file" || { echo "records: $file does not come back" && failed=$((failed + 1)); }

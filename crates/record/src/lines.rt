@@ -21,15 +21,18 @@ pub(crate) const BAD_FIELD: u8 = 3;
 
 pub(crate) const TOO_LONG: u8 = 8;
 
-// What came of a line, one of the numbers above, and the place after its record.
+// What came of a line: one of the numbers above, beside 3 the ordinal of the field that is out of its range, else 0, and the place after
+// its record.
 pub(crate) struct Step {
     pub(crate) number: u8,
+    pub(crate) field: u8,
     pub(crate) to: usize,
 }
 
-// What came of a text: the number and the count of the last line that was looked at, and how many bytes are recorded.
+// What came of a text: the number, the ordinal and the count of the last line that was looked at, and how many bytes are recorded.
 pub(crate) struct Recorded {
     pub(crate) number: u8,
+    pub(crate) field: u8,
     pub(crate) line: u32,
     pub(crate) to: usize,
 }
@@ -97,20 +100,24 @@ fn written(w: Written, to: usize, room: usize) -> Step
             if n <= room {
                 return Step {
                     number: DONE,
+                    field: 0,
                     to: to + n,
                 };
             }
             Step {
                 number: TOO_LONG,
+                field: 0,
                 to,
             }
         }
-        Written::BadField => Step {
+        Written::BadField(field) => Step {
             number: BAD_FIELD,
+            field,
             to,
         },
         Written::NoRoom => Step {
             number: TOO_LONG,
+            field: 0,
             to,
         },
     }
@@ -124,6 +131,7 @@ fn add(words: &[u8], out: &mut [u8], to: usize) -> Step
     match event_of(words) {
         Parsed::Unknown => Step {
             number: UNKNOWN,
+            field: 0,
             to,
         },
         Parsed::Known(e) => {
@@ -140,10 +148,18 @@ fn take(line: &[u8], count: u32, out: &mut [u8], to: usize) -> Step
     ensures { λ r. ⌜ r .to ≤ length (now (out .entry)) ⌝ }
 {
     if is_skipped(line, count) {
-        return Step { number: DONE, to };
+        return Step {
+            number: DONE,
+            field: 0,
+            to,
+        };
     }
     if ends_in_return(line) {
-        return Step { number: RETURN, to };
+        return Step {
+            number: RETURN,
+            field: 0,
+            to,
+        };
     }
     let from = words_from(line);
     add(&line[from..], out, to)
@@ -165,6 +181,7 @@ pub(crate) fn record(text: &[u8], out: &mut [u8]) -> Recorded
         if step.number != DONE {
             return Recorded {
                 number: step.number,
+                field: step.field,
                 line,
                 to,
             };
@@ -173,6 +190,7 @@ pub(crate) fn record(text: &[u8], out: &mut [u8]) -> Recorded
     }
     Recorded {
         number: DONE,
+        field: 0,
         line,
         to,
     }

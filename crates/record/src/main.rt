@@ -36,7 +36,13 @@ fn tell_number(n: u32) {
     io::write_all(STDERR_FILENO, &digits[..k]);
 }
 
-fn tell_why(number: u8) {
+fn tell_field(field: u8) {
+    io::write_all(STDERR_FILENO, b": REFUSED 3: field ");
+    tell_number(field as u32);
+    io::write_all(STDERR_FILENO, b" is out of its range\n");
+}
+
+fn tell_why(number: u8, field: u8) {
     if number == UNKNOWN {
         io::write_all(STDERR_FILENO, b": not known: no record has these words\n");
         return;
@@ -49,7 +55,7 @@ fn tell_why(number: u8) {
         return;
     }
     if number == BAD_FIELD {
-        io::write_all(STDERR_FILENO, b": REFUSED 3: a field is out of its range\n");
+        tell_field(field);
         return;
     }
     io::write_all(
@@ -58,10 +64,10 @@ fn tell_why(number: u8) {
     );
 }
 
-fn tell(line: u32, number: u8) {
+fn tell(line: u32, number: u8, field: u8) {
     io::write_all(STDERR_FILENO, b"record: line ");
     tell_number(line);
-    tell_why(number);
+    tell_why(number, field);
 }
 
 fn main() {
@@ -81,5 +87,5 @@ fn main() {
         io::write_all(STDOUT_FILENO, &out[..to]);
         return;
     }
-    tell(done.line, done.number);
+    tell(done.line, done.number, done.field);
 }

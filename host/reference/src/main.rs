@@ -30,6 +30,7 @@ const USAGE: &str = "usage:
   reference coverage --count N --seed S          how often N files reach each row, number and nature
   reference table                                why there was no row, as docs/ROWS.md has it
   reference undump FILE < DUMP                   whether a dump is FILE's: it is read back
+  reference refused < FILE                       the first record that no writer would write: its ordinal, its number and field
   reference generate --count N --seed S --out DIR
                                                  writes N files
 ";
@@ -112,6 +113,15 @@ fn run(words: &[String]) -> Result<bool, Trouble> {
             }
             Ok(compared.is_ok())
         }
+        "refused" => {
+            Options::read(rest, &[])?;
+            let mut file = Vec::new();
+            std::io::stdin().lock().read_to_end(&mut file)?;
+            if let Some((ordinal, number, field)) = refused(&file) {
+                println!("{ordinal} {number} {field}");
+            }
+            Ok(true)
+        }
         "generate" => {
             let options = Options::read(rest, &["--count", "--seed", "--out"])?;
             let out = options.text("--out").ok_or(Trouble("--out is missing".into()))?;
@@ -144,6 +154,24 @@ fn list() -> std::io::Result<()> {
     std::io::stdin().lock().take(most).read_to_end(&mut file)?;
     let listing = listing::listing(&file, listing::ROOM);
     std::io::stdout().write_all(listing.as_ref().map_or(listing::REFUSED, |listing| &listing.text))
+}
+
+/// The first record that can't be read or has a field out of its range, wherever the call stands: its ordinal, 5, 6, 7 or 3, and which
+/// field it is, 0 where none is to blame.
+fn refused(file: &[u8]) -> Option<(usize, u8, usize)> {
+    let mut rest = file;
+    let mut ordinal = 0;
+    while !rest.is_empty() {
+        ordinal += 1;
+        match model::events::frame(rest) {
+            Err(given) => return Some((ordinal, given as u8, 0)),
+            Ok(record) => match record.event() {
+                Err(field) => return Some((ordinal, 3, field)),
+                Ok(_) => rest = &rest[record.size()..],
+            },
+        }
+    }
+    None
 }
 
 /// Options, each a name and a value.
