@@ -269,11 +269,8 @@ is-nearest a b =
     (λ l. record { one-of = inl refl; none = (λ z. absurd (g z), λ z. z .0); first = λ k. omega arith; second = λ k. omega (arith, l) })))
 
 pub none-in-record : (k : ℕ) → (inRecord k ≡ 0) ↔ (k ≡ 0)
-none-in-record k = (go k, none-in k)
-  where
-    go : (n : ℕ) → inRecord n ≡ 0 → n ≡ 0
-    unfolding inRecord
-    go n = both-eq n 0 (λ (z : ℕ). z ≡ 0 → n ≡ 0) _ _ (λ e _. e) (λ _ e. absurd (omega (arith, e)))
+unfolding inRecord
+none-in-record k = (both-eq k 0 (λ (z : ℕ). z ≡ 0 → k ≡ 0) _ _ (λ e _. e) (λ _ e. absurd (omega (arith, e))), none-in k)
 
 pub some-in-record : (k : ℕ) → (k ≡ 0 → ⊥) → inRecord k ≡ 2 + k
 unfolding inRecord

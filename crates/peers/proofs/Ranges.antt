@@ -11,8 +11,9 @@ use Rattle.text.specs.Choose.{ifSo, ifLt, ifEq}
 use Rattle.files.specs.Bodies.{natureOf, countOf, componentOf}
 use Rattle.rows.specs.Telephone.{national}
 use Rattle.rows.specs.Read.{bit}
-use Rattle.rows.specs.Valid.{pickℕ, everyOne, firstFalse, numberThere, numberAbsent, codeOk, itemOk, presentThen, badFieldOf}
+use Rattle.rows.specs.Valid.{pickℕ, everyOne, firstFalse, numberThere, numberAbsent, codeOk, itemOk, partsOk, presentThen, carriedRanges, badFieldOf}
 use Rattle.rows.specs.declared.Event.the-variants.{Received}
+use Rattle.rows.specs.declared.Message.{Message}
 use Rattle.rows.proofs.Ranges.{none-false}
 use Rattle.rows.proofs.Truth.{both, or-true}
 use Rattle.wire.specs.Writable.{argumentOk, resultOk}
@@ -123,8 +124,11 @@ timed-ranged false = refl
 -- ---- the message
 
 -- message and cause alone are left to judge
-carrier-only : (a b : Bool) (rest : List Bool) → everyOne rest ≡ true → firstFalse 1 (a ∷ b ∷ rest) ≡ firstFalse 1 (a ∷ b ∷ [])
-carrier-only a b rest h = ap (λ (k : ℕ). pickℕ a (pickℕ b k 2) 1) (none-false 3 rest h)
+carrier-only : (m : Message) → everyOne (codeOk (m .component) ∷ itemOk (m .component) ∷ partsOk m ∷ carriedRanges m) ≡ true
+    → badFieldOf (Received m) ≡ firstFalse 1 ((leb 1 (m .kind) && leb (m .kind) 5) ∷ leb (m .cause) 127 ∷ [])
+carrier-only m h =
+    ap (λ (k : ℕ). pickℕ (leb 1 (m .kind) && leb (m .kind) 5) (pickℕ (leb (m .cause) 127) k 2) 1)
+    (none-false 3 (codeOk (m .component) ∷ itemOk (m .component) ∷ partsOk m ∷ carriedRanges m) h)
 
 -- What fits is in range in any message whose kind and cause are: nothing of the component need be looked at again.
 pub fits-ranged : (message cause : ℕ) (c : Component) → Fits c → badFieldOf (Received (heardOf message cause c)) ≡ carrierBad message cause
@@ -132,7 +136,9 @@ unfolding heardOf carrierBad
 fits-ranged message cause c f =
     let p = c .parts in
     let k = component-ranged (c .kind) (c .item) p (f .shaped) in
-    carrier-only (leb 1 message && leb message 5) (leb cause 127) _
+    let timed : List Bool = presentThen (eqb (p / 64 % 2) 1) true [] in
+    let called : List Bool = presentThen (eqb (p / 32 % 2) 1) (numberThere (numberOf (c .called))) timed in
+    carrier-only (heardOf message cause c)
     (both (k .0)
     (both (k .1)
     (both
@@ -140,12 +146,12 @@ fits-ranged message cause c f =
     (both (unnamed-ranged (p / 16 % 2) (c .calling) (omega arith) (f .calling-none))
     (both (unnamed-ranged (p / 32 % 2) (c .called) (omega arith) (f .called-none))
     (duration-ranged (p / 64 % 2) (c .duration) (omega arith) (f .duration-none)))))
-    (present-ranged (p / 16 % 2) (c .calling) _ (omega arith) (f .calling-fine)
-    (present-ranged (p / 32 % 2) (c .called) _ (omega arith) (f .called-fine) (timed-ranged (eqb (p / 64 % 2) 1)))))))
+    (present-ranged (p / 16 % 2) (c .calling) called (omega arith) (f .calling-fine)
+    (present-ranged (p / 32 % 2) (c .called) timed (omega arith) (f .called-fine) (timed-ranged (eqb (p / 64 % 2) 1)))))))
 
 pub none-ranged : (message cause : ℕ) → badFieldOf (Received (heardOf message cause noComponent)) ≡ carrierBad message cause
 unfolding heardOf carrierBad noComponent componentOf numberOf natureOf countOf ifEq ifLt ifSo
-none-ranged message cause = carrier-only (leb 1 message && leb message 5) (leb cause 127) _ refl
+none-ranged message cause = carrier-only (heardOf message cause noComponent) refl
 
 pub carrier-small : (message cause : ℕ) → carrierBad message cause ≤ 2
 unfolding carrierBad

@@ -6,8 +6,14 @@ use Rattle.peers.proofs.parameters.write_event.Tie as tie
 enum-told : tie.Need-enum-told
 enum-told c = search needs
 
+cast-result : tie.Need-cast-result
+cast-result c = search needs
+
 enum-told-2 : tie.Need-enum-told-2
 enum-told-2 c = search needs
+
+cast-result-2 : tie.Need-cast-result-2
+cast-result-2 c = search needs
 
 enum-known-e : tie.Need-enum-known-e
 enum-known-e c = search needs
@@ -18,11 +24,20 @@ write-message-requires c κs = search needs
 enum-told-3 : tie.Need-enum-told-3
 enum-told-3 c = search needs
 
+cast-result-3 : tie.Need-cast-result-3
+cast-result-3 c = search needs
+
 enum-told-4 : tie.Need-enum-told-4
 enum-told-4 c = search needs
 
+cast-result-4 : tie.Need-cast-result-4
+cast-result-4 c = search needs
+
 enum-told-5 : tie.Need-enum-told-5
 enum-told-5 c = search needs
+
+cast-result-5 : tie.Need-cast-result-5
+cast-result-5 c = search needs
 
 returns : tie.Need-returns
 returns c = event-opening _ _ _ _ _ _ (c .enum-told .given .1)
@@ -50,12 +65,17 @@ write-event-spec =
     tie.close
     (tie.spec
     enum-told
+    cast-result
     enum-told-2
+    cast-result-2
     enum-known-e
     write-message-requires
     enum-told-3
+    cast-result-3
     enum-told-4
+    cast-result-4
     enum-told-5
+    cast-result-5
     returns
     returns-2
     same-length
