@@ -161,6 +161,28 @@ impl Refusal {
     }
 }
 
+/// The fields that are out of their range: the ordinal of each and its name.
+pub struct Faults(Vec<(u32, &'static str)>);
+
+impl Faults {
+    /// Of fields by their ordinals and names, with whether each is in range.
+    pub fn among(fields: Vec<(u32, &'static str, bool)>) -> Faults {
+        Faults(fields.into_iter().filter(|(_, _, good)| !good).map(|(ordinal, name, _)| (ordinal, name)).collect())
+    }
+
+    pub fn names(&self) -> Vec<&'static str> {
+        self.0.iter().map(|(_, name)| *name).collect()
+    }
+
+    /// The first first, each once.
+    pub fn ordinals(&self) -> Vec<u32> {
+        let mut ordinals: Vec<u32> = self.0.iter().map(|(ordinal, _)| *ordinal).collect();
+        ordinals.sort();
+        ordinals.dedup();
+        ordinals
+    }
+}
+
 impl Event {
     pub fn kind(&self) -> u8 {
         match self {
@@ -173,8 +195,8 @@ impl Event {
         }
     }
 
-    /// The fields that are out of their range, in the order of the record: the ordinal of each in the body and its name.
-    fn out_of_range(&self) -> Vec<(u32, &'static str)> {
+    /// The fields that are out of their range, in the order of the record, counted in the body.
+    fn out_of_range(&self) -> Faults {
         let fields = match *self {
             Event::Opening { role, flags, own } => {
                 vec![(1, "role", role <= 1), (2, "flags", flags < 32), (3, "number", own.fits(true))]
@@ -202,20 +224,17 @@ impl Event {
             Event::Expiry => vec![],
             Event::Time { seconds } => vec![(1, "seconds", seconds <= 86_400)],
         };
-        fields.into_iter().filter(|(_, _, good)| !good).map(|(ordinal, name, _)| (ordinal, name)).collect()
+        Faults::among(fields)
     }
 
     /// The names of the fields that are out of their range, in the order of the record.
     pub fn bad_fields(&self) -> Vec<&'static str> {
-        self.out_of_range().into_iter().map(|(_, name)| name).collect()
+        self.out_of_range().names()
     }
 
     /// The ordinals of these fields, the first first.
     pub fn bad_ordinals(&self) -> Vec<u32> {
-        let mut ordinals: Vec<u32> = self.out_of_range().into_iter().map(|(ordinal, _)| ordinal).collect();
-        ordinals.sort();
-        ordinals.dedup();
-        ordinals
+        self.out_of_range().ordinals()
     }
 
     /// The record, whether its fields are in range or not.

@@ -2,12 +2,12 @@
 //! problem of a reject as general problem 0. So a component that was written reads back as itself.
 
 use super::{flag, kind, sequence, Component, Says, ERRORS, LONGEST_DURATION, MODULE, NAME, NO_IDENTIFIER, PROFILE};
-use crate::write::{part, Nature, Number, Refusal};
+use crate::write::{part, Faults, Nature, Number, Refusal};
 
 impl Component {
     /// What keeps it from being written: the ordinal of each and its name. They are counted in a component: itself 1, its operation or
     /// error 2, its parts 3, then what the parts bring, as it is there, and the identifier last.
-    fn out_of_range(&self) -> Vec<(u32, &'static str)> {
+    fn out_of_range(&self) -> Faults {
         let operation = matches!(self.kind, kind::INVOKE | kind::RESULT);
         let item = match self.kind {
             kind::INVOKE | kind::RESULT => (1..=3).contains(&self.item),
@@ -32,7 +32,7 @@ impl Component {
         };
         let (calling, called) = (place(self.names(part::CALLING)), place(self.names(part::CALLED)));
         let duration = place(self.names(part::DURATION));
-        let fields = [
+        let fields = vec![
             (1, "kind", (kind::INVOKE..=kind::REJECT).contains(&self.kind)),
             (2, "item", item),
             (3, "part 128", !self.names(128)),
@@ -43,20 +43,17 @@ impl Component {
             (duration, "duration", self.duration <= if self.names(part::DURATION) { LONGEST_DURATION } else { 0 }),
             (last + 1, "identifier", identifier),
         ];
-        fields.into_iter().filter(|(_, _, good)| !good).map(|(ordinal, name, _)| (ordinal, name)).collect()
+        Faults::among(fields)
     }
 
     /// What keeps it from being written, by name.
     pub fn bad_fields(&self) -> Vec<&'static str> {
-        self.out_of_range().into_iter().map(|(_, name)| name).collect()
+        self.out_of_range().names()
     }
 
     /// The ordinals of these, the first first.
     pub fn bad_ordinals(&self) -> Vec<u32> {
-        let mut ordinals: Vec<u32> = self.out_of_range().into_iter().map(|(ordinal, _)| ordinal).collect();
-        ordinals.sort();
-        ordinals.dedup();
-        ordinals
+        self.out_of_range().ordinals()
     }
 
     /// Its octets. Its fields are in range.
