@@ -1,4 +1,5 @@
 // Which calls the table of document 01 allows (else 9), and which events have their fields in range (else 3).
+ghost use mathlib.Core.Bool.{_||_, not};
 ghost use mathlib.Core.Path.{_≡_};
 ghost use Rattle.rows.specs.Valid.{idleOnly, originatingSetup, originatingAnswered, destinationSetup, destinationAnswered, placedOf};
 ghost use Rattle.rows.specs.Valid.{tenTo, inRange, unmetered, payerNobody, payerThere, tallied, meteredOf, payingThere, payingOf};
@@ -355,6 +356,16 @@ fn parts_ok(m: Message) -> bool
             & ((((parts / 32) % 2 == 1) | b) & (((parts / 64) % 2 == 1) | (m.duration == 0))))
 }
 
+// In range where it has to be there. (Ten to the count is not looked for where no number is.)
+fn there_if(named: bool, n: Number) -> bool
+    ensures { λ out. ⌜ out ≡ (not named || numberThere n) ⌝ }
+{
+    if named {
+        return number_there(n);
+    }
+    true
+}
+
 // What the parts name begins with field 6: the calling number, then the called number, which is 6 where it stands alone. The Duration may
 // be any.
 fn carried_bad(m: Message) -> u8
@@ -362,13 +373,12 @@ fn carried_bad(m: Message) -> u8
 {
     let calling = m.calling;
     let called = m.called;
-    let a = number_there(calling);
-    let b = number_there(called);
-    let good = !((m.parts / 32) % 2 == 1) | b;
-    let after = either(good, 0, 7);
-    let alone = either(good, 0, 6);
-    let with = either(a, after, 6);
-    either((m.parts / 16) % 2 == 1, with, alone)
+    let a = there_if((m.parts / 16) % 2 == 1, calling);
+    let b = there_if((m.parts / 32) % 2 == 1, called);
+    let after = either(b, 0, 7);
+    let alone = either(b, 0, 6);
+    let second = either((m.parts / 16) % 2 == 1, after, alone);
+    either(a, second, 6)
 }
 
 pub fn message_bad(m: Message) -> u8

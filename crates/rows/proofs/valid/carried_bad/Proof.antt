@@ -9,7 +9,7 @@ use Rattle.rows.proofs.valid.carried_bad.Statement.{statement}
 use Rattle.rows.proofs.valid.carried_bad.Tie as tie
 
 first-carried : (p a q b s : Bool) →
-    pickℕ p (pickℕ a (pickℕ (not q || b) 0 7) 6) (pickℕ (not q || b) 0 6) ≡ firstFalse 6 (presentThen p a (presentThen q b (presentThen s true [])))
+    pickℕ (not p || a) (pickℕ p (pickℕ (not q || b) 0 7) (pickℕ (not q || b) 0 6)) 6 ≡ firstFalse 6 (presentThen p a (presentThen q b (presentThen s true [])))
 first-carried true true true true true = refl
 first-carried true true true true false = refl
 first-carried true true true false s = refl
@@ -23,8 +23,9 @@ first-carried false a false b true = refl
 first-carried false a false b false = refl
 
 of-message : (m : Message) →
-    pickℕ (bit 16 (m .parts)) (pickℕ (numberThere (m .calling)) (pickℕ (not (bit 32 (m .parts)) || numberThere (m .called)) 0 7) 6)
-    (pickℕ (not (bit 32 (m .parts)) || numberThere (m .called)) 0 6)
+    pickℕ (not (bit 16 (m .parts)) || numberThere (m .calling))
+    (pickℕ (bit 16 (m .parts)) (pickℕ (not (bit 32 (m .parts)) || numberThere (m .called)) 0 7)
+    (pickℕ (not (bit 32 (m .parts)) || numberThere (m .called)) 0 6)) 6
     ≡ firstFalse 6 (carriedRanges m)
 of-message m = first-carried (bit 16 (m .parts)) (numberThere (m .calling)) (bit 32 (m .parts)) (numberThere (m .called)) (bit 64 (m .parts))
 
@@ -34,5 +35,5 @@ carried-bad-spec =
     (tie.spec
     (λ c. λ κs. search needs) (λ c. λ κs. search needs) (λ c. λ κs. search needs) (λ c. λ κs. search needs) (λ c. λ κs. search needs)
     (λ c. λ κs. search needs)
-    (λ c. simp (c .either4 .ensures, c .before .before .either3 .ensures, c .before .before .before .either2 .ensures, c .before .before .before .before .either .ensures, c .before .before .before .before .before .before .number-there2 .ensures, c .before .before .before .before .before .before .before .number-there .ensures)
-    (of-message (c .before .before .before .before .before .before .before .before .before .before .args .m))))
+    (λ c. simp (c .either4 .ensures, c .before .either3 .ensures, c .before .before .before .either2 .ensures, c .before .before .before .before .either .ensures, c .before .before .before .before .before .there-if2 .ensures, c .before .before .before .before .before .before .before .there-if .ensures)
+    (of-message (c .before .before .before .before .before .before .before .before .before .before .before .args .m))))
