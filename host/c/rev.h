@@ -30,8 +30,8 @@ extern "C" {
 #define REV_TOO_LONG 8u
 
 /*
- * Given back by a writer: the record is written; a field is out of its range. Beside the latter stands which field it is, so that only the
- * number of what was given (REV_NUMBER) is equal to it. The same by rev_read_parameter and rev_write_parameter.
+ * Given back by a writer: the record is written; a field is out of its range. With the latter the rest (REV_REST) says which field, so
+ * compare REV_NUMBER of what was given with it. So do rev_read_parameter and rev_write_parameter, which have a rest with both.
  */
 #define REV_WRITTEN 0u
 #define REV_BAD_FIELD 3u
@@ -114,8 +114,10 @@ size_t rev_dump(const uint8_t *file, size_t file_len, uint8_t *out, size_t out_l
  *   opening          role 1, flags 2, own number 3
  *   request          request 1, called number 2
  *   message          message 1, cause 2, component 3, item 4, parts 5, then those that the parts name: calling number, called number,
- *                    Duration. So a called number alone is 6. A number or Duration that is there and not named is a fault of the parts, 5
+ *                    Duration. So a called number alone is 6. A number or Duration that is there and not named is a fault of the parts, 5,
+ *                    and so are bit 128 and part 4 without part 2
  *   access           told 1, error 2
+ *   expiry           none: it is never REV_BAD_FIELD
  *   time             seconds 1
  *
  * On both refusals every byte of `out` is as it was. What they write, the listing and the dump read back as the same event.

@@ -2,6 +2,7 @@
 -- Assumes nothing.
 use mathlib.Core.Path.{_≡_, refl, sym, ap, subst, _∙_}
 use mathlib.Core.List.{List, [], _∷_, _++_, append-nil}
+use mathlib.Core.Logic.{_↔_}
 use Prim.Native.Nat.{ℕ, zero, suc, _+_, _-_, _*_, _^_, _≤_, _<_}
 use native.Mathlib.Nat.{zero-add}
 use native.Mathlib.Omega.{arith}
@@ -21,12 +22,13 @@ use Rattle.rows.specs.declared.Event.the-variants.{Received}
 use Rattle.rows.specs.declared.Message.{Message}
 use Rattle.wire.specs.Grammar.{componentOf}
 use Rattle.wire.specs.Parameters.{Parameter, refused, holds, before, onward, walkOf}
+use Rattle.wire.specs.Texts.{leavesOf}
 use Rattle.wire.specs.declared.Answer.{Answer}
 use Rattle.wire.specs.declared.Component.{Component}
 use Rattle.wire.proofs.Fits.{FitsAll, FitsHeld}
 use Rattle.wire.proofs.Places.{Placed, component-placed}
 use Rattle.wire.proofs.Walks.{read-on, walk-end, walk-on}
-use Rattle.peers.specs.Entries.{withRest, givesOf, leavesOf, entryOf, orNone, entriesOf, carrierBad, firstBad, readGives, readLeaves}
+use Rattle.peers.specs.Entries.{withRest, givesOf, entryOf, orNone, entriesOf, carrierBad, firstBad, readGives, readLeaves}
 use Rattle.peers.specs.Entries.{endedOf, keptOf, Keeps, KeptWithin}
 use Rattle.peers.specs.Messages.{heardOf, receivedOf, noComponent}
 use Rattle.peers.specs.declared.Kept.{Kept}
@@ -116,6 +118,17 @@ module _ (bad : ℕ) (t out : List ℕ) where
         let b : new ≡ t ++ drop (length t) out =
         p .bytes ∙ sets-eq t out 0 (omega arith) ∙ ap (λ (i : ℕ). t ++ drop i out) (zero-add (length t)) in
         (yes-eq _ _ _ _ _ h (no-lt _ _ _ _ _ k (f ∙ ap (withRest 0) e)), yes-eq _ _ _ _ _ h (no-lt _ _ _ _ _ k b))
+
+-- 3 with an ordinal is given for that ordinal, and for nothing else
+pub three-given : (bad : ℕ) (t out : List ℕ) (k : ℕ) → (givesOf bad t out ≡ 3 + 256 * suc k) ↔ (bad ≡ suc k)
+unfolding givesOf
+three-given bad t out k = (
+  both-eq bad 0 (λ (r : ℕ). r ≡ 3 + 256 * suc k → bad ≡ suc k) _ _
+      (λ _. both-lt (length out) (length t) (λ (r : ℕ). r ≡ 3 + 256 * suc k → bad ≡ suc k) _ _
+      (λ _ e. absurd (omega (arith, e))) (λ _ e. absurd (omega (arith, e))))
+      (λ _ e. omega (arith, e)),
+  λ e. sym (no-eq bad 0 _ _ _ (λ z. absurd (omega (arith, z, e))) (ap (λ (n : ℕ). 3 + 256 * n) (sym e))),
+)
 
 -- ---- what was read is in range
 

@@ -2,7 +2,6 @@
 -- Assumes nothing.
 use mathlib.Core.Path.{_≡_, refl, sym, ap, subst, _∙_}
 use mathlib.Core.List.{List, [], _∷_}
-use mathlib.Core.Logic.{_⊎_, inl, inr, _↔_}
 use Prim.Native.Nat.{ℕ, _+_, _≤_, _<_, _^_}
 use native.Mathlib.Omega.{arith}
 use lib.ListN.{length}
@@ -18,7 +17,7 @@ use Rattle.wire.specs.Grammar.{componentOf}
 use Rattle.wire.specs.Parameters.{Parameter, holds, before, onward, walkOf, framedOf, parameterOf, Bounded}
 use Rattle.wire.specs.Texts.{parameterText}
 use Rattle.wire.specs.Writable.{badOf}
-use Rattle.wire.specs.Texts.{writtenOf as wireWritten, leavesOf as wireLeaves}
+use Rattle.wire.specs.Texts.{leavesOf, writtenOf as wireWritten}
 use Rattle.wire.specs.declared.Answer.{Answer}
 use Rattle.wire.specs.declared.Component.{Component}
 use Rattle.wire.specs.declared.Frame.{Frame}
@@ -26,7 +25,7 @@ use Rattle.wire.specs.declared.Written.{Written}
 use Rattle.wire.proofs.Fits.{FitsHeld, read-fits, walk-fits}
 use Rattle.wire.proofs.Places.{Placed, component-placed, parameter-most}
 use Rattle.wire.proofs.Walks.{read-on, walk-end, walk-on, good-walk, bad-refused}
-use Rattle.peers.specs.Entries.{withRest, givesOf, leavesOf, orNone, readGives, readLeaves}
+use Rattle.peers.specs.Entries.{withRest, givesOf, orNone, readGives, readLeaves}
 use Rattle.peers.specs.Entries.{nearest, inRecord, sentBad, sendGives, sendLeaves, writeGives, writeLeaves}
 use Rattle.peers.specs.Messages.{noComponent, carriedOf, sentOf}
 use Rattle.peers.proofs.Entered.{Gave, gives-bad, Carried, Reads}
@@ -108,7 +107,7 @@ module _ (s : List ℕ) (message cause : ℕ) (out : List ℕ) where
 
 -- what the writer of `wire` says of a component
 abbrev Wrote : Component → List ℕ → Written → List ℕ → Type 0
-Wrote c out w new = (w ≡ wireWritten (badOf c) (parameterText c) out) × (new ≡ wireLeaves (badOf c) (parameterText c) out)
+Wrote c out w new = (w ≡ wireWritten (badOf c) (parameterText c) out) × (new ≡ leavesOf (badOf c) (parameterText c) out)
 
 pub sent-as : (n : Note) (id : ℕ) (out new : List ℕ) (c : Component) (w : Written) → c ≡ sentOf n id → Wrote c out w new
     → Sent n id out w new
@@ -125,7 +124,7 @@ Short (Written.Done n) = n ≤ 171
 Short (Written.Refused n k) = Unit {0}
 
 -- a field of the component is one of the record, and none is none
-none-in : (k : ℕ) → k ≡ 0 → inRecord k ≡ 0
+pub none-in : (k : ℕ) → k ≡ 0 → inRecord k ≡ 0
 unfolding inRecord
 none-in k h = sym (yes-eq _ _ _ _ _ h refl)
 
@@ -143,8 +142,8 @@ number-as bad t out =
     (λ l. yes-eq _ _ _ _ _ (none-in bad e) (no-lt _ _ _ _ _ l refl)))
     (λ h. no-eq _ _ _ _ _ (some-in bad h) refl)
 
-left-as : (bad : ℕ) (t out : List ℕ) → wireLeaves bad t out ≡ leavesOf (inRecord bad) t out
-unfolding wireLeaves leavesOf
+left-as : (bad : ℕ) (t out : List ℕ) → leavesOf bad t out ≡ leavesOf (inRecord bad) t out
+unfolding leavesOf leavesOf
 left-as bad t out =
     both-eq bad 0 (λ (x : List ℕ). x ≡ leavesOf (inRecord bad) t out) _ _
     (λ e. yes-eq _ _ _ _ _ (none-in bad e) refl) (λ h. no-eq _ _ _ _ _ (some-in bad h) refl)
@@ -245,33 +244,3 @@ module _ (f x : Read) (id : ℕ) (out : List ℕ) (e : f ≡ x) where
   entry-got ev next i r new g h k =
       subst (λ (y : Read). Writes y id out r new) (sym g ∙ e)
       (subst (λ (j : ℕ). Sends ev j out r new) h k)
-
--- ---- whichever of two ordinals is the first
-
--- it is one of them, 0 where both are, and none of those that are there is before it
-pub record Nearest (a b n : ℕ) : Type 0 where
-  pub one-of : (n ≡ a) ⊎ (n ≡ b)
-  pub none : (n ≡ 0) ↔ ((a ≡ 0) × (b ≡ 0))
-  pub first : (a ≡ 0 → ⊥) → n ≤ a
-  pub second : (b ≡ 0 → ⊥) → n ≤ b
-
-pub is-nearest : (a b : ℕ) → Nearest a b (nearest a b)
-unfolding nearest
-is-nearest a b =
-    both-eq a 0 (Nearest a b) _ _
-    (λ e. record { one-of = inr refl; none = (λ z. (e, z), λ z. z .1); first = λ h. absurd (h e); second = λ h. omega arith })
-    (λ g.
-    both-eq b 0 (Nearest a b) _ _
-    (λ e. record { one-of = inl refl; none = (λ z. absurd (g z), λ z. z .0); first = λ h. omega arith; second = λ h. absurd (h e) })
-    (λ h.
-    both-lt b a (Nearest a b) _ _
-    (λ l. record { one-of = inr refl; none = (λ z. absurd (h z), λ z. z .1); first = λ k. omega (arith, l); second = λ k. omega arith })
-    (λ l. record { one-of = inl refl; none = (λ z. absurd (g z), λ z. z .0); first = λ k. omega arith; second = λ k. omega (arith, l) })))
-
-pub none-in-record : (k : ℕ) → (inRecord k ≡ 0) ↔ (k ≡ 0)
-unfolding inRecord
-none-in-record k = (both-eq k 0 (λ (z : ℕ). z ≡ 0 → k ≡ 0) _ _ (λ e _. e) (λ _ e. absurd (omega (arith, e))), none-in k)
-
-pub some-in-record : (k : ℕ) → (k ≡ 0 → ⊥) → inRecord k ≡ 2 + k
-unfolding inRecord
-some-in-record k h = sym (no-eq _ _ _ _ _ h refl)

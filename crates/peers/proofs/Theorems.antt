@@ -5,12 +5,12 @@
 -- Assumes nothing.
 use mathlib.Core.Bool.{true}
 use mathlib.Core.List.{List, [], _∷_, _++_}
-use mathlib.Core.Logic.{_↔_}
+use mathlib.Core.Logic.{_⊎_, inl, inr, _↔_}
 use mathlib.Core.Path.{_≡_, refl, sym, subst}
-use Prim.Native.Nat.{ℕ, _*_, _%_, _≤_, _<_}
+use Prim.Native.Nat.{ℕ, suc, _+_, _*_, _%_, _≤_, _<_}
 use native.Mathlib.Omega.{arith}
 use lib.ListN.{length, drop}
-use Rattle.text.proofs.Cases.{yes-eq, both-eq, no-lt, both-lt}
+use Rattle.text.proofs.Cases.{yes-eq, no-eq, both-eq, no-lt, both-lt}
 use Rattle.rows.specs.History.{run}
 use Rattle.rows.specs.Step.{unopenedCall, stepOf, messageOf}
 use Rattle.rows.specs.Valid.{numberThere, badFieldOf}
@@ -21,19 +21,19 @@ use Rattle.rows.specs.declared.Message.{Message}
 use Rattle.rows.specs.declared.Note.{Note}
 use Rattle.wire.specs.Grammar.{componentOf}
 use Rattle.wire.specs.Parameters.{Parameter, refused, holds, parameterOf}
-use Rattle.wire.specs.Texts.{parameterText}
+use Rattle.wire.specs.Texts.{parameterText, leavesOf}
 use Rattle.wire.specs.Writable.{badOf, writableOf}
 use Rattle.wire.specs.declared.Answer.{Answer}
 use Rattle.wire.specs.declared.Component.{Component}
 use Rattle.wire.proofs.Fits.{FitsHeld, read-fits}
 use Rattle.wire.proofs.Numbered.{NumberedWhole, parameter-numbered}
 use Rattle.wire.proofs.Theorems.{parameter-reads-back}
-use Rattle.peers.specs.Entries.{givesOf, leavesOf, orNone, entriesOf, carrierBad, firstBad, inRecord, sentBad, readGives, readLeaves}
+use Rattle.peers.specs.Entries.{givesOf, orNone, entriesOf, carrierBad, firstBad, nearest, inRecord, sentBad, sendGives, readGives, readLeaves}
 use Rattle.peers.specs.Messages.{receivedOf, carriedOf, sentOf}
 use Rattle.peers.proofs.Backs
 use Rattle.peers.proofs.Backs.{isCoded}
-use Rattle.peers.proofs.Entered.{fits-first-bad}
-use Rattle.peers.proofs.Hosted.{parameter-fits, Nearest, is-nearest}
+use Rattle.peers.proofs.Entered.{fits-first-bad, three-given}
+use Rattle.peers.proofs.Hosted.{parameter-fits, none-in}
 use Rattle.peers.proofs.Ranges.{fits-ranged}
 use Rattle.peers.proofs.Sendings
 use Rattle.peers.proofs.Sendings.{isThere}
@@ -72,11 +72,52 @@ pub three-is-the-carrier's : (s : List ℕ) (message cause : ℕ) (cs : List Com
     firstBad message cause (orNone cs) ≡ carrierBad message cause
 three-is-the-carrier's s message cause cs e = fits-first-bad message cause cs (subst FitsHeld e (parameter-fits s))
 
--- Beside the 3 of an entry's message stands the first of two fields (`Nearest`), each the first of its kind: one that is out of range in a
--- record, and one that cannot be written (`none-in-record`, `some-in-record`: counted in the record's body, behind message and cause).
+-- What is given back says so: 3 + 256 times that ordinal, and for nothing else.
+pub three-read : (s : List ℕ) (message cause k : ℕ) (out : List ℕ) (cs : List Component) → parameterOf s ≡ holds cs →
+    (readGives message cause (parameterOf s) out ≡ 3 + 256 * suc k) ↔ (carrierBad message cause ≡ suc k)
+unfolding readGives
+three-read s message cause k out cs e =
+    subst (λ (p : Parameter). (readGives message cause p out ≡ 3 + 256 * suc k) ↔ (carrierBad message cause ≡ suc k)) (sym e)
+    (subst (λ (n : ℕ). (givesOf (firstBad message cause (orNone cs)) (entriesOf message cause (orNone cs)) out ≡ 3 + 256 * suc k) ↔ (n ≡ suc k))
+    (three-is-the-carrier's s message cause cs e) (three-given (firstBad message cause (orNone cs)) (entriesOf message cause (orNone cs)) out k))
+
+-- Beside the 3 of an entry's message stands the first bad field. Two ordinals are compared, each 0 if there is none: the first field out of
+-- range in the record, and the first that cannot be written, counted in the record's body (its own ordinal + 2). What is told is one of
+-- them, 0 only where both are, and none that is there is before it.
+pub record Nearest (a b n : ℕ) : Type 0 where
+  pub one-of : (n ≡ a) ⊎ (n ≡ b)
+  pub none : (n ≡ 0) ↔ ((a ≡ 0) × (b ≡ 0))
+  pub first : (a ≡ 0 → ⊥) → n ≤ a
+  pub second : (b ≡ 0 → ⊥) → n ≤ b
+
+pub is-nearest : (a b : ℕ) → Nearest a b (nearest a b)
+unfolding nearest
+is-nearest a b =
+    both-eq a 0 (Nearest a b) _ _
+    (λ e. record { one-of = inr refl; none = (λ z. (e, z), λ z. z .1); first = λ h. absurd (h e); second = λ h. omega arith })
+    (λ g.
+    both-eq b 0 (Nearest a b) _ _
+    (λ e. record { one-of = inl refl; none = (λ z. absurd (g z), λ z. z .0); first = λ h. omega arith; second = λ h. absurd (h e) })
+    (λ h.
+    both-lt b a (Nearest a b) _ _
+    (λ l. record { one-of = inr refl; none = (λ z. absurd (h z), λ z. z .1); first = λ k. omega (arith, l); second = λ k. omega arith })
+    (λ l. record { one-of = inl refl; none = (λ z. absurd (g z), λ z. z .0); first = λ k. omega arith; second = λ k. omega (arith, l) })))
+
+pub none-in-record : (k : ℕ) → (inRecord k ≡ 0) ↔ (k ≡ 0)
+unfolding inRecord
+none-in-record k = (both-eq k 0 (λ (z : ℕ). z ≡ 0 → k ≡ 0) _ _ (λ e _. e) (λ _ e. absurd (omega (arith, e))), none-in k)
+
+pub some-in-record : (k : ℕ) → (k ≡ 0 → ⊥) → inRecord k ≡ 2 + k
+unfolding inRecord
+some-in-record k h = sym (no-eq _ _ _ _ _ h refl)
+
 pub entry-field-first : (m : Message) (id : ℕ) → Nearest (badFieldOf (Received m)) (inRecord (badOf (carriedOf m id))) (sentBad m id)
 unfolding sentBad
 entry-field-first m id = is-nearest (badFieldOf (Received m)) (inRecord (badOf (carriedOf m id)))
+
+pub three-sent : (m : Message) (id k : ℕ) (out : List ℕ) → (sendGives (Received m) id out ≡ 3 + 256 * suc k) ↔ (sentBad m id ≡ suc k)
+unfolding sendGives
+three-sent m id k out = three-given (sentBad m id) (parameterText (carriedOf m id)) out k
 
 -- Where a host is given the number 0 the entries are there: the parameter was read, every event of it is in range, there was room, the rest
 -- is how many bytes they have, and the buffer begins with them. No refusal of a parameter, whatever its place, can be taken for that.

@@ -19,7 +19,7 @@ use Rattle.rows.specs.declared.Event.{Event}
 use Rattle.rows.specs.declared.Event.the-variants.{Opening, Ask, Received, FromAccess, Expiry, Time}
 use Rattle.rows.specs.declared.Message.{Message}
 use Rattle.wire.specs.Parameters.{Parameter, refused, holds}
-use Rattle.wire.specs.Texts.{parameterText}
+use Rattle.wire.specs.Texts.{parameterText, leavesOf}
 use Rattle.wire.specs.Writable.{badOf}
 use Rattle.wire.specs.declared.Component.{Component}
 use Rattle.peers.specs.Messages.{receivedOf, noComponent, carriedOf}
@@ -35,13 +35,9 @@ abbrev pub withRest : ℕ → ℕ → ℕ
 withRest number rest = number + 256 * rest
 
 -- of the text t, where bad is the ordinal of the first field out of range, or 0: 3 and that ordinal, then 8; else 0 and how many bytes were
--- written
+-- written. What is left of the buffer is what the writer of `wire` leaves (`leavesOf`)
 unfoldable pub givesOf : ℕ → List ℕ → List ℕ → ℕ
 givesOf bad t out = ifEq bad 0 (ifLt (length out) (length t) noRoom (withRest 0 (length t))) (withRest badField bad)
-
--- bytes past the text stay; on a refusal all do
-unfoldable pub leavesOf : ℕ → List ℕ → List ℕ → List ℕ
-leavesOf bad t out = ifEq bad 0 (ifLt (length out) (length t) out (t ++ drop (length t) out)) out
 
 -- ---- from a parameter to entries
 
@@ -109,7 +105,8 @@ recordAt entry = readAt entry 2
 unfoldable pub nearest : ℕ → ℕ → ℕ
 nearest a b = ifEq a 0 b (ifEq b 0 a (ifLt b a b a))
 
--- in the record's body message and cause stand before the component; what is written behind it, the identifier, is the last
+-- a field of the component, counted in the record's body, where message and cause stand before it; the identifier, which an entry has before
+-- its record, is counted last
 unfoldable pub inRecord : ℕ → ℕ
 inRecord k = ifEq k 0 0 (2 + k)
 

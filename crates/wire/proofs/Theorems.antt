@@ -246,10 +246,22 @@ refused-with-its-field c t out k = (
   λ w. sym (no-eq (badOf c) 0 _ _ _ (λ e. w .0 (none-writable c e)) (ap (Written.Refused 3) (sym (w .1)))),
 )
 
--- The one other refusal is 8, where there is too little room, with the ordinal 0.
-pub refused-for-room : (c : Component) (t out : List ℕ) (n k : ℕ) → writtenOf (badOf c) t out ≡ Written.Refused n k → (n ≡ 3 → ⊥) → (n ≡ 8) × (k ≡ 0) × (length out < length t)
+-- 8 is given exactly where it can be written and there is too little room, with the ordinal 0 ..
+pub refused-for-room : (c : Component) (t out : List ℕ) → (writtenOf (badOf c) t out ≡ Written.Refused 8 0) ↔ ((writableOf c ≡ 1) × (length out < length t))
 unfolding writtenOf
-refused-for-room c t out n k =
+refused-for-room c t out = (
+  both-eq (badOf c) 0 (λ (w : Written). w ≡ Written.Refused 8 0 → (writableOf c ≡ 1) × (length out < length t)) _ _
+      (λ h. both-lt _ _ (λ (w : Written). w ≡ Written.Refused 8 0 → (writableOf c ≡ 1) × (length out < length t)) _ _
+      (λ l e. (none-writable c h, l))
+      (λ _ e. let z : _≡_ {A = ℕ} 0 8 = ap numberIn e in absurd (omega arith)))
+      (λ _ e. let z : _≡_ {A = ℕ} 3 8 = ap numberIn e in absurd (omega arith)),
+  λ w. sym (yes-eq (badOf c) 0 _ _ _ (writable-none c (w .0)) (yes-lt _ _ _ _ _ (w .1) refl)),
+)
+
+-- .. and there is no other refusal.
+pub no-other-refusal : (c : Component) (t out : List ℕ) (n k : ℕ) → writtenOf (badOf c) t out ≡ Written.Refused n k → (n ≡ 3 → ⊥) → (n ≡ 8) × (k ≡ 0) × (length out < length t)
+unfolding writtenOf
+no-other-refusal c t out n k =
     both-eq (badOf c) 0 (λ (w : Written). w ≡ Written.Refused n k → (n ≡ 3 → ⊥) → (n ≡ 8) × (k ≡ 0) × (length out < length t)) _ _
     (λ _. both-lt _ _ (λ (w : Written). w ≡ Written.Refused n k → (n ≡ 3 → ⊥) → (n ≡ 8) × (k ≡ 0) × (length out < length t)) _ _
     (λ h e f. (sym (ap numberIn e), sym (ap fieldIn e), h))

@@ -21,7 +21,8 @@ bothOk a b = ifEq a 1 b 0
 abbrev pub kindOk : ℕ → ℕ
 kindOk k = rangeOk k 1 4
 
--- by the component: the operation of an invoke and of a result, the error, and none in a reject
+-- by the component: the operation of an invoke and of a result, the error, and none in a reject; a component that is none of these is told
+-- before it
 unfoldable pub itemOk : ℕ → ℕ → ℕ
 itemOk k n =
     ifEq k 1 (rangeOk n 1 3)
