@@ -143,7 +143,7 @@ number-as bad t out =
     (λ h. no-eq _ _ _ _ _ (some-in bad h) refl)
 
 left-as : (bad : ℕ) (t out : List ℕ) → leavesOf bad t out ≡ leavesOf (inRecord bad) t out
-unfolding leavesOf leavesOf
+unfolding leavesOf
 left-as bad t out =
     both-eq bad 0 (λ (x : List ℕ). x ≡ leavesOf (inRecord bad) t out) _ _
     (λ e. yes-eq _ _ _ _ _ (none-in bad e) refl) (λ h. no-eq _ _ _ _ _ (some-in bad h) refl)
