@@ -10,7 +10,7 @@ use Rattle.meters.specs.Meters.{changeOf}
 use Rattle.rows.specs.Find.{rowForOf}
 use Rattle.rows.specs.Perform.{refusedAt, refusedOf, performIf}
 use Rattle.rows.specs.Read.{askedOf, toldOf, heardOf, kindOf, readOf, cueOf, termsOf}
-use Rattle.rows.specs.Reasons.{Looked, rowAt, HasRowIn, Never, OnlyElsewhere, OtherState, reason, SameComponent, no-component, an-invoke, a-result}
+use Rattle.rows.specs.Reasons.{Timely, Looked, rowAt, HasRowIn, Never, OnlyElsewhere, OtherState, reason, SameComponent, no-component, an-invoke, a-result}
 use Rattle.rows.specs.Reasons.{an-error, a-reject, SameEvent, an-opening, a-request, a-message, an-access, an-expiry, a-time}
 use Rattle.rows.specs.Step.{ifRow, takesOf, ifInRange, isOpening, isUnopened, ifTimely, ifCall, stepOf}
 use Rattle.rows.specs.Valid.{pickℕ, placedOf, validOf, eventOk, badFieldOf}
@@ -39,6 +39,29 @@ use Rattle.rows.proofs.Found.{row-plans}
 use Rattle.rows.proofs.Progress.{valid-place}
 use Rattle.rows.proofs.Truth.{both, differ, either, left, or-true, right}
 
+-- ---- Before the opening: the test, and what it says
+
+unopened-is : (p : Phase) → isUnopened p ≡ true → p ≡ Unopened
+unopened-is Unopened h = refl
+unopened-is Null h = differ h
+unopened-is Setup h = differ h
+unopened-is Answered h = differ h
+unopened-is Cleared h = differ h
+
+is-false : (b : Bool) → (b ≡ true → ⊥) → b ≡ false
+is-false true h = absurd (h refl)
+is-false false h = refl
+
+opened-is : (p : Phase) → isUnopened p ≡ false → p ≡ Unopened → ⊥
+opened-is p h i = differ (sym h ∙ ap isUnopened i)
+
+in-its-time : (p : Phase) (b : Bool) → isUnopened p ≡ b → (p ≡ Unopened) ↔ (b ≡ true)
+in-its-time p b t = (λ h. sym t ∙ ap isUnopened h, λ h. unopened-is p (t ∙ h))
+
+time-test : (p : Phase) (b : Bool) → (p ≡ Unopened) ↔ (b ≡ true) → isUnopened p ≡ b
+time-test p true w = ap isUnopened (w .1 refl)
+time-test p false w = is-false (isUnopened p) (λ h. differ (w .0 (unopened-is p h)))
+
 -- ---- The six ways
 
 pub data Way (c : Call) (e : Event) : Outcome → Type 0 where
@@ -59,7 +82,7 @@ module _ (c : Call) (e : Event) where
   by-row l false h = no-row l h
 
   by-range : validOf c ≡ true → isUnopened (c .stand .phase) ≡ isOpening e → (b : Bool) → eventOk e ≡ b → Way c e (ifInRange b c e)
-  by-range v t true h = by-row (record { valid = v; timely = t; ranged = h }) (isRow row) refl
+  by-range v t true h = by-row (record { valid = v; timely = in-its-time (c .stand .phase) (isOpening e) t; ranged = h }) (isRow row) refl
   by-range v t false h = out-of-range v t h
 
   by-time : validOf c ≡ true → (a b : Bool) → isUnopened (c .stand .phase) ≡ a → isOpening e ≡ b → Way c e (ifTimely a b c e)
@@ -132,29 +155,30 @@ module _ (c : Call) (e : Event) (n : ℕ) (q : ofARow n ≡ false) {A : Type 0} 
 -- ---- 17, 18 and 3
 
 pub seventeen-exactly : (c : Call) (e : Event) →
-    (stepOf c e .number ≡ 17) ↔ ((validOf c ≡ true) × (isUnopened (c .stand .phase) ≡ true) × (isOpening e ≡ false))
+    (stepOf c e .number ≡ 17) ↔ ((validOf c ≡ true) × (c .stand .phase ≡ Unopened) × (isOpening e ≡ false))
 seventeen-exactly c e = (
-  by-number c e 17 refl (λ v. not-equal 9 17 refl) (λ v u i h. (v, u, i)) (λ v u i. not-equal 18 17 refl) (λ v t k. not-equal 3 17 refl)
+  by-number c e 17 refl (λ v. not-equal 9 17 refl) (λ v u i h. (v, unopened-is _ u, i)) (λ v u i. not-equal 18 17 refl) (λ v t k. not-equal 3 17 refl)
       (λ l w. not-a-reason (c .side .role) (c .stand .phase) (cueOf (readOf e)) 17 refl),
   given,
 )
   where
-    given : (validOf c ≡ true) × (isUnopened (c .stand .phase) ≡ true) × (isOpening e ≡ false) → stepOf c e .number ≡ 17
+    given : (validOf c ≡ true) × (c .stand .phase ≡ Unopened) × (isOpening e ≡ false) → stepOf c e .number ≡ 17
     given (v, u, i) =
-        ap (λ (b : Bool). ifCall b c e .number) v ∙ ap (λ (b : Bool). ifTimely b (isOpening e) c e .number) u
+        ap (λ (b : Bool). ifCall b c e .number) v ∙ ap (λ (b : Bool). ifTimely b (isOpening e) c e .number) (ap isUnopened u)
         ∙ ap (λ (b : Bool). ifTimely true b c e .number) i
 
 pub eighteen-exactly : (c : Call) (e : Event) →
-    (stepOf c e .number ≡ 18) ↔ ((validOf c ≡ true) × (isUnopened (c .stand .phase) ≡ false) × (isOpening e ≡ true))
+    (stepOf c e .number ≡ 18) ↔ ((validOf c ≡ true) × (c .stand .phase ≡ Unopened → ⊥) × (isOpening e ≡ true))
 eighteen-exactly c e = (
-  by-number c e 18 refl (λ v. not-equal 9 18 refl) (λ v u i. not-equal 17 18 refl) (λ v u i h. (v, u, i)) (λ v t k. not-equal 3 18 refl)
+  by-number c e 18 refl (λ v. not-equal 9 18 refl) (λ v u i. not-equal 17 18 refl) (λ v u i h. (v, opened-is _ u, i)) (λ v t k. not-equal 3 18 refl)
       (λ l w. not-a-reason (c .side .role) (c .stand .phase) (cueOf (readOf e)) 18 refl),
   given,
 )
   where
-    given : (validOf c ≡ true) × (isUnopened (c .stand .phase) ≡ false) × (isOpening e ≡ true) → stepOf c e .number ≡ 18
+    given : (validOf c ≡ true) × (c .stand .phase ≡ Unopened → ⊥) × (isOpening e ≡ true) → stepOf c e .number ≡ 18
     given (v, u, i) =
-        ap (λ (b : Bool). ifCall b c e .number) v ∙ ap (λ (b : Bool). ifTimely b (isOpening e) c e .number) u
+        ap (λ (b : Bool). ifCall b c e .number) v
+        ∙ ap (λ (b : Bool). ifTimely b (isOpening e) c e .number) (is-false (isUnopened (c .stand .phase)) (λ h. u (unopened-is _ h)))
         ∙ ap (λ (b : Bool). ifTimely false b c e .number) i
 
 -- timely: nothing but the fields and the tables is left to judge
@@ -162,19 +186,19 @@ both-ways : (c : Call) (e : Event) (a : Bool) → ifTimely a a c e ≡ ifInRange
 both-ways c e true = refl
 both-ways c e false = refl
 
-timely-step : (c : Call) (e : Event) → validOf c ≡ true → isUnopened (c .stand .phase) ≡ isOpening e → stepOf c e ≡ ifInRange (eventOk e) c e
+timely-step : (c : Call) (e : Event) → validOf c ≡ true → Timely c e → stepOf c e ≡ ifInRange (eventOk e) c e
 timely-step c e v t =
-    ap (λ (b : Bool). ifCall b c e) v ∙ ap (λ (b : Bool). ifTimely b (isOpening e) c e) t ∙ both-ways c e (isOpening e)
+    ap (λ (b : Bool). ifCall b c e) v ∙ ap (λ (b : Bool). ifTimely b (isOpening e) c e) (time-test (c .stand .phase) (isOpening e) t)
+    ∙ both-ways c e (isOpening e)
 
-pub three-exactly : (c : Call) (e : Event) →
-    (stepOf c e .number ≡ 3) ↔ ((validOf c ≡ true) × (isUnopened (c .stand .phase) ≡ isOpening e) × (eventOk e ≡ false))
+pub three-exactly : (c : Call) (e : Event) → (stepOf c e .number ≡ 3) ↔ ((validOf c ≡ true) × Timely c e × (eventOk e ≡ false))
 three-exactly c e = (
-  by-number c e 3 refl (λ v. not-equal 9 3 refl) (λ v u i. not-equal 17 3 refl) (λ v u i. not-equal 18 3 refl) (λ v t k h. (v, t, k))
+  by-number c e 3 refl (λ v. not-equal 9 3 refl) (λ v u i. not-equal 17 3 refl) (λ v u i. not-equal 18 3 refl) (λ v t k h. (v, in-its-time _ _ t, k))
       (λ l w. not-a-reason (c .side .role) (c .stand .phase) (cueOf (readOf e)) 3 refl),
   given,
 )
   where
-    given : (validOf c ≡ true) × (isUnopened (c .stand .phase) ≡ isOpening e) × (eventOk e ≡ false) → stepOf c e .number ≡ 3
+    given : (validOf c ≡ true) × Timely c e × (eventOk e ≡ false) → stepOf c e .number ≡ 3
     given (v, t, k) = ap (λ (o : Outcome). o .number) (timely-step c e v t) ∙ ap (λ (b : Bool). ifInRange b c e .number) k
 
 -- the ordinal is told beside 3, and 0 beside every other number
@@ -294,10 +318,6 @@ module _ (r : Role) (e : Event) where
   one p false true h k i = not-equal 15 1 refl i
   one p false false h k i = λ q w. differ (sym k ∙ ever q w)
 
-is-false : (b : Bool) → (b ≡ true → ⊥) → b ≡ false
-is-false true h = absurd (h refl)
-is-false false h = refl
-
 -- ---- 1, 15 and 16
 
 module _ (c : Call) (e : Event) where
@@ -382,15 +402,15 @@ module _ (c : Call) (e : Event) (v : validOf c ≡ true) (k : eventOk e ≡ true
   ranged-reason : reason (ifInRange (eventOk e) c e .number) ≡ pickℕ (isRow (row c e)) 0 (whyOf (c .side .role) (c .stand .phase) (cueOf (readOf e)))
   ranged-reason = ap (λ (b : Bool). reason (ifInRange b c e .number)) k ∙ of-the-row (isRow (row c e)) refl
 
-  in-its-time : (a b : Bool) →
+  timed-reason : (a b : Bool) →
       reason (ifTimely a b c e .number) ≡ reasonAt a b (isRow (row c e)) (whyOf (c .side .role) (c .stand .phase) (cueOf (readOf e)))
-  in-its-time true true = ranged-reason
-  in-its-time true false = refl
-  in-its-time false true = refl
-  in-its-time false false = ranged-reason
+  timed-reason true true = ranged-reason
+  timed-reason true false = refl
+  timed-reason false true = refl
+  timed-reason false false = ranged-reason
 
   by-place : reason (stepOf c e .number) ≡ reasonBy (c .side .role) (c .stand .phase) (c .stand .rev) (cueOf (readOf e)) (isOpening e)
-  by-place = ap (λ (b : Bool). reason (ifCall b c e .number)) v ∙ in-its-time (isUnopened (c .stand .phase)) (isOpening e)
+  by-place = ap (λ (b : Bool). reason (ifCall b c e .number)) v ∙ timed-reason (isUnopened (c .stand .phase)) (isOpening e)
 
 -- an opening's role and flags are not looked at
 opening-reason : (r : Role) (p : Phase) (s : RevState) (k f : ℕ) (n : Number) →

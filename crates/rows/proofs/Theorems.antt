@@ -22,8 +22,8 @@ use Rattle.rows.specs.Promises.{saysNoRow, requestHasRow, invokeHasRow}
 use Rattle.rows.specs.Promises.{openingThere, secondsThere, noDuration, lastedIn, withTotal, totalFits}
 use Rattle.rows.specs.Promises.{reversals, Extends, OtherDigits, Redialled, AllRedialled, Renumbered, SameAnswer, numbers}
 use Rattle.rows.specs.Promises.{takesEffect, InEffect, PassedOn, Keeps, OnlyOwn, HoldsOrClears}
-use Rattle.rows.specs.Reasons.{Looked, Never, OnlyElsewhere, OtherState, reason, SameEvent, FirstOut}
-use Rattle.rows.specs.Step.{unopenedCall, totalOf, isOpening, isUnopened, stepOf}
+use Rattle.rows.specs.Reasons.{Timely, Looked, Never, OnlyElsewhere, OtherState, reason, SameEvent, FirstOut}
+use Rattle.rows.specs.Step.{unopenedCall, totalOf, isOpening, stepOf}
 use Rattle.rows.specs.Telephone.{absent, sameNumber}
 use Rattle.rows.specs.Valid.{inRange, numberThere, validOf, rangesOf, eventOk, badFieldOf}
 use Rattle.rows.specs.declared.Call.{Call}
@@ -32,7 +32,7 @@ use Rattle.rows.specs.declared.Event.the-variants.{Opening, Ask, Receive
 use Rattle.rows.specs.declared.Message.{Message}
 use Rattle.rows.specs.declared.Nature.{Nature}
 use Rattle.rows.specs.declared.Number.{Number}
-use Rattle.rows.specs.declared.Phase.the-variants.{Null, Answered, Cleared}
+use Rattle.rows.specs.declared.Phase.the-variants.{Unopened, Null, Answered, Cleared}
 use Rattle.rows.specs.declared.RevState.the-variants.{Active}
 use Rattle.rows.specs.declared.Role.the-variants.{Destination}
 use Rattle.rows.proofs.Clearing
@@ -68,16 +68,15 @@ refusal-is = Refusals.refusal-is
 
 -- At a call, 17 is given for an event before the opening and 18 for an opening after it, whatever the fields, and for nothing else ..
 pub seventeen-exactly : (c : Call) (e : Event) →
-    (stepOf c e .number ≡ 17) ↔ ((validOf c ≡ true) × (isUnopened (c .stand .phase) ≡ true) × (isOpening e ≡ false))
+    (stepOf c e .number ≡ 17) ↔ ((validOf c ≡ true) × (c .stand .phase ≡ Unopened) × (isOpening e ≡ false))
 seventeen-exactly = Reasons.seventeen-exactly
 
 pub eighteen-exactly : (c : Call) (e : Event) →
-    (stepOf c e .number ≡ 18) ↔ ((validOf c ≡ true) × (isUnopened (c .stand .phase) ≡ false) × (isOpening e ≡ true))
+    (stepOf c e .number ≡ 18) ↔ ((validOf c ≡ true) × (c .stand .phase ≡ Unopened → ⊥) × (isOpening e ≡ true))
 eighteen-exactly = Reasons.eighteen-exactly
 
 -- .. and then 3 for a field out of range, and for nothing else: the ordinal beside it ..
-pub three-exactly : (c : Call) (e : Event) →
-    (stepOf c e .number ≡ 3) ↔ ((validOf c ≡ true) × (isUnopened (c .stand .phase) ≡ isOpening e) × (eventOk e ≡ false))
+pub three-exactly : (c : Call) (e : Event) → (stepOf c e .number ≡ 3) ↔ ((validOf c ≡ true) × Timely c e × (eventOk e ≡ false))
 three-exactly = Reasons.three-exactly
 
 pub three-tells : (c : Call) (e : Event) → stepOf c e .number ≡ 3 → stepOf c e .field ≡ badFieldOf e

@@ -4,12 +4,13 @@
 use Prim.Native.Nat.{ℕ, zero, suc, _<_}
 use mathlib.Core.Bool.{Bool, true, false, _||_}
 use mathlib.Core.List.{List, [], _∷_}
+use mathlib.Core.Logic.{_↔_}
 use mathlib.Core.Path.{_≡_}
 use lib.Dec.{eqb}
 use Rattle.rows.specs.Find.{rowForOf}
 use Rattle.rows.specs.Promises.{sent}
 use Rattle.rows.specs.Read.{readOf, cueOf}
-use Rattle.rows.specs.Step.{isOpening, isUnopened}
+use Rattle.rows.specs.Step.{isOpening}
 use Rattle.rows.specs.Valid.{pickℕ, placedOf, validOf, eventOk}
 use Rattle.rows.specs.declared.Call.{Call}
 use Rattle.rows.specs.declared.Component.{Component}
@@ -18,6 +19,7 @@ use Rattle.rows.specs.declared.Event.{Event}
 use Rattle.rows.specs.declared.Event.the-variants.{Opening, Ask, Received, FromAccess, Expiry, Time}
 use Rattle.rows.specs.declared.Number.{Number}
 use Rattle.rows.specs.declared.Phase.{Phase}
+use Rattle.rows.specs.declared.Phase.the-variants.{Unopened}
 use Rattle.rows.specs.declared.RevState.{RevState}
 use Rattle.rows.specs.declared.Role.{Role}
 use Rattle.rows.specs.declared.Row.{Row}
@@ -25,11 +27,14 @@ use Rattle.rows.specs.declared.Row.the-variants.{NoRow}
 
 -- ---- Why there was no row: proofs/Reasons.antt
 
--- the event is judged by the tables: the call is one, the event is an opening exactly where the call was not opened, and its fields are in
--- range
+-- the event comes in its time: it is an opening exactly where the call was not opened (01's NONE)
+abbrev pub Timely : Call → Event → Type 0
+Timely c e = (c .stand .phase ≡ Unopened) ↔ (isOpening e ≡ true)
+
+-- the event is judged by the tables: the call is one, the event comes in its time, and its fields are in range
 pub record Looked (c : Call) (e : Event) : Type 0 where
   pub valid : validOf c ≡ true
-  pub timely : isUnopened (c .stand .phase) ≡ isOpening e
+  pub timely : Timely c e
   pub ranged : eventOk e ≡ true
 
 -- the row of this event at a place
