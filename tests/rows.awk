@@ -144,6 +144,7 @@ function condition_words(line, row,   n, i, part, from, out, key) {
 BEGIN {
     operation[1] = "SETUP"; operation[2] = "ACTIVE"; operation[3] = "CALLED"
 
+    pays["Begin"] = "meters and total 0"
     pays["CallerPays"] = "caller pays"
     pays["CalledPays"] = "called pays"
     pays["FarPays"] = "far exchange pays"

@@ -1,9 +1,9 @@
 -- What the meters promise to the rows above them: seconds go to the payer's meter and to no other, none is lost and none
 -- is made, and no sum passes the limit; the total grows with the time that passes and with nothing else, and does not pass the
--- limit either. Demand 3 rests on these and on nothing else of this crate.
+-- limit either; a call that begins anew has none of these. Demand 3 rests on these and on nothing else of this crate.
 -- Assumes nothing.
 use mathlib.Core.Path.{_≡_, refl, sym, ap, subst, _∙_}
-use mathlib.Core.Bool.{Bool, true, false, _&&_}
+use mathlib.Core.Bool.{Bool, true, false, _&&_, not}
 use Prim.Native.Nat.{ℕ, _+_, _≤_, _<_}
 use native.Mathlib.Omega.{arith}
 use lib.Dec.{leb}
@@ -12,11 +12,11 @@ use Rattle.meters.specs.declared.Payer.{Payer}
 use Rattle.meters.specs.declared.Payer.the-variants.{Nobody, Caller, Called, Far}
 use Rattle.meters.specs.declared.Meters.{Meters}
 use Rattle.meters.specs.declared.Change.{Change}
-use Rattle.meters.specs.declared.Change.the-variants.{Keep, CallerPays, CalledPays, FarPays, NobodyPays, EntireToCalled, EntireToFar}
-use Rattle.meters.specs.declared.Change.the-variants.{TimePasses, DurationReceived}
+use Rattle.meters.specs.declared.Change.the-variants.{Keep, Begin, CallerPays, CalledPays, FarPays, NobodyPays, EntireToCalled}
+use Rattle.meters.specs.declared.Change.the-variants.{EntireToFar, TimePasses, DurationReceived}
 use Rattle.meters.specs.declared.Metered.{Metered}
 use Rattle.meters.specs.declared.Metered.the-variants.{Done, NoPayer, TooMuch}
-use Rattle.meters.specs.Meters.{limit, sumOf, paidByOf, unlessPast, addsOf, chargesTo, chargeOf, lastsOf, thenLasts, giveOf}
+use Rattle.meters.specs.Meters.{limit, newOf, sumOf, paidByOf, unlessPast, addsOf, chargesTo, chargeOf, lastsOf, thenLasts, giveOf}
 use Rattle.meters.specs.Meters.{entireOf, receivedOf, changeOf}
 
 -- s where the two payers are one, else nothing
@@ -238,6 +238,7 @@ received m n s h =
 -- the change by which time passes
 abbrev pub timed : Change → Bool
 timed Keep = false
+timed Begin = false
 timed CallerPays = false
 timed CalledPays = false
 timed FarPays = false
@@ -247,13 +248,29 @@ timed EntireToFar = false
 timed TimePasses = true
 timed DurationReceived = false
 
+-- the change by which a call begins anew
+abbrev pub begins : Change → Bool
+begins Keep = false
+begins Begin = true
+begins CallerPays = false
+begins CalledPays = false
+begins FarPays = false
+begins NobodyPays = false
+begins EntireToCalled = false
+begins EntireToFar = false
+begins TimePasses = false
+begins DurationReceived = false
+
 abbrev pub onlyIf : Bool → ℕ → ℕ
 onlyIf true s = s
 onlyIf false s = 0
 
--- The total grows by the seconds that pass, and no other change touches it: no change of payer, no move of case C, no Duration.
-pub total-grows : (x : Change) (m n : Meters) (s : ℕ) → changeOf x m s ≡ Done n → n .total ≡ m .total + onlyIf (timed x) s
+-- The total grows by the seconds that pass, and where a call begins anew it is 0; no other change touches it: no change of payer, no move
+-- of case C, no Duration.
+pub total-grows : (x : Change) (m n : Meters) (s : ℕ) → changeOf x m s ≡ Done n →
+    n .total ≡ onlyIf (not (begins x)) (m .total) + onlyIf (timed x) s
 total-grows Keep m n s h = let e : m ≡ n = cc in omega (arith, ap (λ (k : Meters). k .total) e)
+total-grows Begin m n s h = let e : newOf ≡ n = cc in omega (arith, ap (λ (k : Meters). k .total) e)
 total-grows CallerPays m n s h = let e : paidByOf m Caller ≡ n = cc in omega (arith, ap (λ (k : Meters). k .total) e)
 total-grows CalledPays m n s h = let e : paidByOf m Called ≡ n = cc in omega (arith, ap (λ (k : Meters). k .total) e)
 total-grows FarPays m n s h = let e : paidByOf m Far ≡ n = cc in omega (arith, ap (λ (k : Meters). k .total) e)
@@ -262,6 +279,19 @@ total-grows EntireToCalled m n s h = let g = moved m n Called h in omega (arith,
 total-grows EntireToFar m n s h = let g = moved m n Far h in omega (arith, g .total)
 total-grows TimePasses m n s h = let g = gave m n s h in g .total
 total-grows DurationReceived m n s h = let g = received m n s h in omega (arith, g .total)
+
+-- A call that begins anew has new meters, whatever they were.
+pub begun : (x : Change) (m n : Meters) (s : ℕ) → begins x ≡ true → changeOf x m s ≡ Done n → newOf ≡ n
+begun Keep m n s b h = cc
+begun Begin m n s b h = cc
+begun CallerPays m n s b h = cc
+begun CalledPays m n s b h = cc
+begun FarPays m n s b h = cc
+begun NobodyPays m n s b h = cc
+begun EntireToCalled m n s b h = cc
+begun EntireToFar m n s b h = cc
+begun TimePasses m n s b h = cc
+begun DurationReceived m n s b h = cc
 
 -- ---- Who is missing: a tick finds no payer exactly where nobody pays
 
@@ -299,6 +329,7 @@ nobody-charged m s h = ap (λ (p : Payer). thenLasts (chargesTo p m s) s) h
 -- of every change: only time misses a payer, and only where nobody pays
 pub missing : (x : Change) (m : Meters) (s : ℕ) → changeOf x m s ≡ NoPayer → (timed x ≡ true) × (m .payer ≡ Nobody)
 missing Keep m s h = done-paid _ h
+missing Begin m s h = done-paid _ h
 missing CallerPays m s h = done-paid _ h
 missing CalledPays m s h = done-paid _ h
 missing FarPays m s h = done-paid _ h

@@ -7,8 +7,8 @@ use Rattle.meters.specs.declared.Payer.{Payer}
 use Rattle.meters.specs.declared.Payer.the-variants.{Nobody, Caller, Called, Far}
 use Rattle.meters.specs.declared.Meters.{Meters}
 use Rattle.meters.specs.declared.Change.{Change}
-use Rattle.meters.specs.declared.Change.the-variants.{Keep, CallerPays, CalledPays, FarPays, NobodyPays, EntireToCalled, EntireToFar}
-use Rattle.meters.specs.declared.Change.the-variants.{TimePasses, DurationReceived}
+use Rattle.meters.specs.declared.Change.the-variants.{Keep, Begin, CallerPays, CalledPays, FarPays, NobodyPays, EntireToCalled}
+use Rattle.meters.specs.declared.Change.the-variants.{EntireToFar, TimePasses, DurationReceived}
 use Rattle.meters.specs.declared.Metered.{Metered}
 use Rattle.meters.specs.declared.Metered.the-variants.{Done, NoPayer, TooMuch}
 
@@ -80,8 +80,10 @@ entireOf m p = chargeOf (record { caller = 0; called = m .called; far = m .far; 
 abbrev pub receivedOf : Meters → ℕ → Metered
 receivedOf m s = chargeOf (record { caller = m .caller; called = 0; far = 0; payer = Called; total = m .total }) s
 
+-- Begin: an opening starts anew, whatever the call before it left (02 #107: "freed slots are used")
 abbrev pub changeOf : Change → Meters → ℕ → Metered
 changeOf Keep m s = Done m
+changeOf Begin m s = Done newOf
 changeOf CallerPays m s = Done (paidByOf m Caller)
 changeOf CalledPays m s = Done (paidByOf m Called)
 changeOf FarPays m s = Done (paidByOf m Far)

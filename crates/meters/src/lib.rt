@@ -28,6 +28,7 @@ pub struct Meters {
 // What a row may do to the meters.
 pub enum Change {
     Keep,
+    Begin,
     CallerPays,
     CalledPays,
     FarPays,
@@ -191,6 +192,7 @@ impl Meters {
     {
         match change {
             Change::Keep => Metered::Done(self),
+            Change::Begin => Metered::Done(Meters::new()),
             Change::CallerPays => Metered::Done(self.paid_by(Payer::Caller)),
             Change::CalledPays => Metered::Done(self.paid_by(Payer::Called)),
             Change::FarPays => Metered::Done(self.paid_by(Payer::Far)),

@@ -12,7 +12,7 @@ use Rattle.rows.specs.Find.{rowForOf}
 use Rattle.rows.specs.Perform.{refusedAt, refusedOf, followsOf, settledOf, performOf}
 use Rattle.rows.specs.Read.{readOf, cueOf, termsOf}
 use Rattle.rows.specs.Rows.{planOf}
-use Rattle.rows.specs.Step.{ifRow, takesOf, ifInRange, isOpening, isUnopened, untimelyOf, inTime, ifTimely, ifCall, stepOf}
+use Rattle.rows.specs.Step.{ifRow, takesOf, ifInRange, isOpening, untimelyOf, inTime, ifTimely, ifCall, stepOf}
 use Rattle.rows.specs.Valid.{pickℕ, validOf, eventOk, badFieldOf}
 use Rattle.rows.specs.Why.{isRow, rowIn, rowEver, whyOf}
 use Rattle.rows.specs.declared.Call.{Call}
@@ -103,7 +103,7 @@ pub record Refusing (P : Outcome → Type 0) (c : Call) : Type 0 where
   pub fifteen : P (refusedOf 15 c)
   pub sixteen : P (refusedOf 16 c)
   pub seventeen : P (refusedOf 17 c)
-  pub eighteen : P (refusedOf 18 c)
+  pub twenty : P (refusedOf 20 c)
 
 -- where no row was found it is one of three numbers
 pub by-why : (P : ℕ → Type 0) (r : Role) (p : Phase) (e : Cue) → P 1 → P 15 → P 16 → P (whyOf r p e)
@@ -129,27 +129,52 @@ module _ (P : Outcome → Type 0) (c : Call) (e : Event) (j : Refusing P c) wher
   if-ranged true h = if-row (h refl)
   if-ranged false h = j .three (badFieldOf e)
 
-  pub if-timely : (a b : Bool) → (eventOk e ≡ true → P (performed c e)) → P (ifTimely a b c e)
-  if-timely true true h = if-ranged (eventOk e) h
-  if-timely true false h = j .seventeen
-  if-timely false true h = j .eighteen
-  if-timely false false h = if-ranged (eventOk e) h
+  pub if-timely : (p : Phase) (b : Bool) → (eventOk e ≡ true → P (performed c e)) → P (ifTimely p b c e)
+  if-timely Unopened true h = if-ranged (eventOk e) h
+  if-timely Unopened false h = j .seventeen
+  if-timely Null true h = j .twenty
+  if-timely Null false h = if-ranged (eventOk e) h
+  if-timely Setup true h = j .twenty
+  if-timely Setup false h = if-ranged (eventOk e) h
+  if-timely Answered true h = j .twenty
+  if-timely Answered false h = if-ranged (eventOk e) h
+  if-timely Cleared b h = if-ranged (eventOk e) h
 
 -- one of these, or 9, or what comes of the plan
 module _ (P : Outcome → Type 0) (c : Call) (e : Event) (nine : P (refusedOf 9 c)) (j : Refusing P c) (performs : P (performed c e)) where
   of-a-call : (b : Bool) → P (ifCall b c e)
-  of-a-call true = if-timely P c e j (isUnopened (c .stand .phase)) (isOpening e) (λ k. performs)
+  of-a-call true = if-timely P c e j (c .stand .phase) (isOpening e) (λ k. performs)
   of-a-call false = nine
 
   pub refused-or-performed : P (stepOf c e)
   refused-or-performed = of-a-call (validOf c)
 
--- a valid call that was opened, and an event in range that is no opening: the row decides
+-- 01's NONE
+abbrev pub isUnopened : Phase → Bool
+isUnopened Unopened = true
+isUnopened Null = false
+isUnopened Setup = false
+isUnopened Answered = false
+isUnopened Cleared = false
+
+-- what is no opening is in its time once the call was opened
+later-timely : (p : Phase) → isUnopened p ≡ false → untimelyOf p false ≡ 0
+later-timely Unopened u = differ (sym u)
+later-timely Null u = refl
+later-timely Setup u = refl
+later-timely Answered u = refl
+later-timely Cleared u = refl
+
+-- a valid call, and an event in its time and in range: the row decides
+pub timely-decides : (c : Call) (e : Event) → validOf c ≡ true → untimelyOf (c .stand .phase) (isOpening e) ≡ 0 → eventOk e ≡ true →
+    stepOf c e ≡ takesOf c e
+timely-decides c e v u k =
+    ap (λ (b : Bool). ifCall b c e) v ∙ ap (λ (n : ℕ). inTime (eqb n 0) n c e) u ∙ ap (λ (b : Bool). ifInRange b c e) k
+
+-- so for one that is no opening, at a call that was opened
 pub row-decides : (c : Call) (e : Event) → validOf c ≡ true → isUnopened (c .stand .phase) ≡ false → isOpening e ≡ false → eventOk e ≡ true →
     stepOf c e ≡ takesOf c e
-row-decides c e v u o k =
-    ap (λ (b : Bool). ifCall b c e) v ∙ ap (λ (b : Bool). ifTimely b (isOpening e) c e) u ∙ ap (λ (b : Bool). ifTimely false b c e) o
-    ∙ ap (λ (b : Bool). ifInRange b c e) k
+row-decides c e v u o k = timely-decides c e v (ap (untimelyOf (c .stand .phase)) o ∙ later-timely (c .stand .phase) u) k
 
 -- where something holds that does not hold before the opening, the call was opened
 pub opened-then : (f : Phase → Bool) (p : Phase) → f Unopened ≡ false → f p ≡ true → isUnopened p ≡ false
@@ -188,7 +213,7 @@ module _ (c : Call) (e : Event) (r : Reading) (q : Cue) (x : Row) (g : r ≡ rea
   row-missing a j k = sym (ap (λ (b : Bool). ifRow b found c (readOf e)) (is-found a false j k))
 
 -- .. and before it, whether the event comes in its time
-module _ (c : Call) (e : Event) (v : validOf c ≡ true) (n : ℕ) (g : n ≡ untimelyOf (isUnopened (c .stand .phase)) (isOpening e)) where
+module _ (c : Call) (e : Event) (v : validOf c ≡ true) (n : ℕ) (g : n ≡ untimelyOf (c .stand .phase) (isOpening e)) where
   in-time : (b : Bool) → eqb n 0 ≡ b → inTime b n c e ≡ stepOf c e
   in-time b h =
       sym (ap (λ (x : Bool). ifCall x c e) v ∙ ap (λ (k : ℕ). inTime (eqb k 0) k c e) (sym g) ∙ ap (λ (x : Bool). inTime x n c e) h)

@@ -175,8 +175,24 @@ in-unopened Destination Expires q h a = refl
 in-unopened Destination Passes q h a = refl
 
 in-cleared : (r : Role) (k : Kind) (q : Asked) (h : Heard) (a : Told) → Same r Cleared (cue k q h a)
-in-cleared Originating k q h a = refl
-in-cleared Destination k q h a = refl
+in-cleared Originating Opens q h a = refl
+in-cleared Originating Asks q h a = refl
+in-cleared Originating Iam q h a = refl
+in-cleared Originating Answer q h a = refl
+in-cleared Originating Rel q h a = refl
+in-cleared Originating Fac q h a = refl
+in-cleared Originating Tells q h a = refl
+in-cleared Originating Expires q h a = refl
+in-cleared Originating Passes q h a = refl
+in-cleared Destination Opens q h a = refl
+in-cleared Destination Asks q h a = refl
+in-cleared Destination Iam q h a = refl
+in-cleared Destination Answer q h a = refl
+in-cleared Destination Rel q h a = refl
+in-cleared Destination Fac q h a = refl
+in-cleared Destination Tells q h a = refl
+in-cleared Destination Expires q h a = refl
+in-cleared Destination Passes q h a = refl
 
 pub same-table : (r : Role) (p : Phase) (e : Cue) → Same r p e
 same-table r Unopened e = in-unopened r (e .kind) (e .asked) (e .heard) (e .told)

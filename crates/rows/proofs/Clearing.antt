@@ -84,6 +84,7 @@ isRel Kind.Passes = false
 
 abbrev nobodys : Change → Bool
 nobodys Change.Keep = false
+nobodys Change.Begin = false
 nobodys Change.CallerPays = false
 nobodys Change.CalledPays = false
 nobodys Change.FarPays = false
@@ -107,6 +108,7 @@ top Cleared h = refl
 
 nobody-pays : (x : Change) → nobodys x ≡ true → x ≡ Change.NobodyPays
 nobody-pays Change.Keep h = differ h
+nobody-pays Change.Begin h = differ h
 nobody-pays Change.CallerPays h = differ h
 nobody-pays Change.CalledPays h = differ h
 nobody-pays Change.FarPays h = differ h

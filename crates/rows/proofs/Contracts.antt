@@ -15,12 +15,14 @@ use prog.Memory.{Memory}
 use prog.Routine.{Routine}
 use prog.Wp.{Heap}
 use Rattle.rows.specs.Perform.{refusedOf}
-use Rattle.rows.specs.Step.{stepOf, totalOf, unopenedCall}
+use Rattle.rows.specs.Step.{freeOf, stepOf, totalOf, unopenedCall}
 use Rattle.rows.specs.Telephone.{sameNumber}
+use Rattle.rows.proofs.Call.is_free as is-free
 use Rattle.rows.proofs.Call.refused as refused
 use Rattle.rows.proofs.Call.step as step
 use Rattle.rows.proofs.Call.total as total
 use Rattle.rows.proofs.Call.unopened as unopened
+use Rattle.rows.proofs.Outcome.after as after
 use Rattle.rows.proofs.telephone.same_number as same-number
 
 module _ {M : Type 1} (𝓤 : URA M) (H : Heap 𝓤) (A : Atoms 𝓤) (mem : Memory → SProp 𝓤) (run : Routine → Fun 𝓤) where
@@ -52,6 +54,16 @@ module _ {M : Type 1} (𝓤 : URA M) (H : Heap 𝓤) (A : Atoms 𝓤) (mem : Mem
   pub total-says : (κs : Lfts 0) (a : Args total.signature κs) →
       total.spec 𝓤 H A mem run κs a ≡ Promises total.ended κs a (λ out. out ≡ totalOf (a .0))
   total-says κs a = refl
+
+  -- a .0 is the call
+  pub is-free-says : (κs : Lfts 0) (a : Args is-free.signature κs) →
+      is-free.spec 𝓤 H A mem run κs a ≡ Promises is-free.ended κs a (λ out. out ≡ freeOf (a .0))
+  is-free-says κs a = refl
+
+  -- a .0 is the answer
+  pub after-says : (κs : Lfts 0) (a : Args after.signature κs) →
+      after.spec 𝓤 H A mem run κs a ≡ Promises after.ended κs a (λ out. out ≡ a .0 .call)
+  after-says κs a = refl
 
   -- a .0 and a .1 .0 are the numbers
   pub same-number-says : (κs : Lfts 0) (a : Args same-number.signature κs) →

@@ -14,8 +14,8 @@ use Rattle.meters.specs.declared.Metered.the-variants.{Done}
 use Rattle.meters.specs.declared.Meters.{Meters}
 use Rattle.meters.specs.declared.Payer.{Payer}
 use Rattle.meters.specs.declared.Payer.the-variants.{Nobody, Called, Far}
-use Rattle.rows.specs.Bill.{pick, Step, accepted, isAnswered, isRev, secondsIn, counted, times, sum, answered, resultTo}
-use Rattle.rows.specs.Find.{when, destinationNullOf, destinationSetupIdleOf, waitSetupConfOf, setupWaitCalledOf}
+use Rattle.rows.specs.Bill.{pick, Step, accepted, isAnswered, isRev, secondsIn, counted, times, sum, answered, resultTo, noneOpens}
+use Rattle.rows.specs.Find.{when, vacantOf, destinationNullOf, destinationSetupIdleOf, waitSetupConfOf, setupWaitCalledOf}
 use Rattle.rows.specs.Find.{destinationWaitAnswerOf, destinationAnsweredIdleOf, waitActiveConfOf, answeredWaitCalledOf, activeOf}
 use Rattle.rows.specs.History.{run, written, history}
 use Rattle.rows.specs.Perform.{performOf}
@@ -59,10 +59,10 @@ use Rattle.rows.specs.declared.Service.the-variants.{OnRequest, Uncondit
 use Rattle.rows.specs.declared.Role.the-variants.{Destination}
 use Rattle.rows.specs.declared.Row.{Row}
 use Rattle.rows.proofs.Found.{split, fork, guarded}
-use Rattle.rows.proofs.Truth.{left, right, neither-left, neither-right}
+use Rattle.rows.proofs.Truth.{differ, left, right, neither-left, neither-right}
 use Rattle.rows.proofs.Answers.{performed, settled}
 use Rattle.rows.proofs.Stays.{not-callers}
-use Rattle.rows.proofs.Whole.{by-kind}
+use Rattle.rows.proofs.Whole.{by-kind, Unopening, first-unopening, rest-unopening}
 
 -- ---- The invariant: a call agrees with the request remembered (w) and the seconds that the history says (x)
 
@@ -265,17 +265,19 @@ same-words f (Time s) = refl
 abbrev Kept : ℕ → Call → Bool → ℕ → Event → Type 0
 Kept f c w x e = Good f (asksC e) (heardIn f e) c w x e (performed c e)
 
-opens : (f k h : ℕ) (n : Number) {c : Call} {w : Bool} {x : ℕ} → Agrees f c w x → Kept f c w x (Opening k h n)
-opens f k h n null = search states
-opens f k h n setup = search states
-opens f k h n asked-A = search states
-opens f k h n asked-D = search states
-opens f k h n waits = search states
-opens f k h n (talks y) = search states
-opens f k h n (asked-B y) = search states
-opens f k h n (asked y) = search states
-opens f k h n (turned y) = search states
-opens f k h n (over y) = search states
+-- an opening is accepted at a cleared call alone: there another call begins
+reopens : (f k h : ℕ) (n : Number) {c : Call} {w : Bool} {x : ℕ} → Agrees f c w x → Unopening (Opening k h n) (performed c (Opening k h n)) →
+    Kept f c w x (Opening k h n)
+reopens f k h n null u = search states
+reopens f k h n setup u = search states
+reopens f k h n asked-A u = search states
+reopens f k h n asked-D u = search states
+reopens f k h n waits u = search states
+reopens f k h n (talks y) u = search states
+reopens f k h n (asked-B y) u = search states
+reopens f k h n (asked y) u = search states
+reopens f k h n (turned y) u = search states
+reopens f k h n (over y) u = differ (sym u)
 
 -- a request in the answered call: B (2), C (3) or neither
 module _ (f q : ℕ) (n u v z : Number) (a r w : Bool) {m : Meters} {x : ℕ} (y : Right m x) where
@@ -379,7 +381,7 @@ module _ (f : ℕ) (l : Message) (ok : eventOk (Received l) ≡ true) where
   receives {c} {w} {x} (turned y) =
       by-kind l (K c w x activeOf) (search states) (search states) (search states)
       (split (P c w x) (word .invoke) _ _ (search states) (search states))
-  receives (over y) = search states
+  receives {c} {w} {x} (over y) = by-kind l (K c w x vacantOf) (search states) (search states) (search states) (search states)
 
 tells : (f k n : ℕ) {c : Call} {w : Bool} {x : ℕ} → Agrees f c w x → Kept f c w x (FromAccess k n)
 tells f k n null = search states
@@ -434,21 +436,22 @@ passes f s {c} {w} {x} (turned {m = m} y) =
     settled (Good f false false c w x (Time s)) (giveOf m s) _ _ _ (λ n h. turned (ticks y (gave m n s h))) (search states) (search states)
 passes f s (over y) = search states
 
-takes : (f : ℕ) {c : Call} {w : Bool} {x : ℕ} (e : Event) → eventOk e ≡ true → Agrees f c w x → Kept f c w x e
-takes f (Opening k h n) o y = opens f k h n y
-takes f (Ask q n) o y = asks f q n y
-takes f (Received l) o y = receives f l o y
-takes f (FromAccess k n) o y = tells f k n y
-takes f Expiry o y = expires f y
-takes f (Time s) o y = passes f s y
+takes : (f : ℕ) {c : Call} {w : Bool} {x : ℕ} (e : Event) → eventOk e ≡ true → Agrees f c w x → Unopening e (performed c e) → Kept f c w x e
+takes f (Opening k h n) o y u = reopens f k h n y u
+takes f (Ask q n) o y u = asks f q n y
+takes f (Received l) o y u = receives f l o y
+takes f (FromAccess k n) o y u = tells f k n y
+takes f Expiry o y u = expires f y
+takes f (Time s) o y u = passes f s y
 
-keeps : (f : ℕ) {c : Call} {w : Bool} {x : ℕ} (e : Event) → Agrees f c w x → Good f (asksC e) (givesTransfer f e) c w x e (stepOf c e)
+keeps : (f : ℕ) {c : Call} {w : Bool} {x : ℕ} (e : Event) → Agrees f c w x → Unopening e (stepOf c e) →
+    Good f (asksC e) (givesTransfer f e) c w x e (stepOf c e)
 keeps f {c} {w} {x} e y =
-    guarded (Good f (asksC e) (givesTransfer f e) c w x e) c e (λ v. y)
-    (λ v. record { one = y; three = λ k. y; fifteen = y; sixteen = y; seventeen = y; eighteen = y })
-    (λ v o. subst (λ (g : Bool). Good f (asksC e) g c w x e (performed c e)) (same-words f e) (takes f e o y))
+    guarded (λ (a : Outcome). Unopening e a → Good f (asksC e) (givesTransfer f e) c w x e a) c e (λ v u. y)
+    (λ v. record { one = λ u. y; three = λ k u. y; fifteen = λ u. y; sixteen = λ u. y; seventeen = λ u. y; twenty = λ u. y })
+    (λ v o u. subst (λ (g : Bool). Good f (asksC e) g c w x e (performed c e)) (same-words f e) (takes f e o y u))
 
--- ---- THE INDUCTION: from a call that agrees, any events lead to one that agrees
+-- ---- THE INDUCTION: from a call that agrees, any events among which no opening is accepted lead to one that agrees
 
 abbrev remembered : Bool → List Step → Bool
 remembered w [] = w
@@ -458,10 +461,12 @@ abbrev countAll : ℕ → Bool → ℕ → List Step → ℕ
 countAll f w x [] = x
 countAll f w x (s ∷ h) = countAll f (entireAsked w s) (counts (givesTransfer f (s .event)) w x s) h
 
-reached : (f : ℕ) {c : Call} {w : Bool} {x : ℕ} (es : List Event) → Agrees f c w x →
+reached : (f : ℕ) {c : Call} {w : Bool} {x : ℕ} (es : List Event) → Agrees f c w x → noneOpens (history c es) ≡ true →
     Agrees f (run c es) (remembered w (history c es)) (countAll f w x (history c es))
-reached f [] y = y
-reached f (e ∷ es) y = reached f es (keeps f e y)
+reached f [] y u = y
+reached f {c} (e ∷ es) y u =
+    reached f es (keeps f e y (first-unopening (written c e (stepOf c e)) (history (stepOf c e .call) es) u))
+    (rest-unopening (written c e (stepOf c e)) (history (stepOf c e .call) es) u)
 
 agreed-sum : {f : ℕ} {c : Call} {w : Bool} {x : ℕ} → Agrees f c w x → Sum (c .meters) x
 agreed-sum null = record { caller = refl; both = refl }
@@ -506,17 +511,19 @@ opened f own true e = null
 opened f own false e = absurd (omega arith)
 
 from-opening : (f : ℕ) (own : Number) → openingThere f own .number ≡ 0 → (es : List Event) →
+    noneOpens (history (openingThere f own .call) es) ≡ true →
     Sum (run (openingThere f own .call) es .meters) (countAll f false 0 (history (openingThere f own .call) es))
-from-opening f own e es = agreed-sum (reached f es (opened f own (eventOk (Opening 1 f own)) e))
+from-opening f own e es u = agreed-sum (reached f es (opened f own (eventOk (Opening 1 f own)) e) u)
 
--- For a destination's call from its opening, after any events: called and far together are the answered seconds, or from the last Duration
--- used on, that Duration and the answered seconds since, as the history alone says.
+-- For a destination's call from its latest opening, after any events since: called and far together are the answered seconds, or from the
+-- last Duration used on, that Duration and the answered seconds since, as the history alone says.
 pub destination-seconds : (f : ℕ) (own : Number) → openingThere f own .number ≡ 0 → (es : List Event) →
+    noneOpens (history (openingThere f own .call) es) ≡ true →
     run (openingThere f own .call) es .meters .called + run (openingThere f own .call) es .meters .far
     ≡ secondsThere f (history (openingThere f own .call) es)
-destination-seconds f own e es =
+destination-seconds f own e es u =
     let h : List Step = history (openingThere f own .call) es in
-    from-opening f own e es .both ∙ (counted-from f false 0 h ∙ from-nothing h (lastUse f false h))
+    from-opening f own e es u .both ∙ (counted-from f false 0 h ∙ from-nothing h (lastUse f false h))
 
 unused-answered : (h : List Step) (u : Use) → isUnused u ≡ true → secondsBy h u ≡ answered h
 unused-answered h unused e = refl
@@ -524,17 +531,17 @@ unused-answered h (used d since) e = cc
 
 -- Where the history used no Duration, called and far together are the answered seconds.
 pub destination-answered : (f : ℕ) (own : Number) → openingThere f own .number ≡ 0 → (es : List Event) →
-    noDuration f (history (openingThere f own .call) es) ≡ true →
+    noneOpens (history (openingThere f own .call) es) ≡ true → noDuration f (history (openingThere f own .call) es) ≡ true →
     run (openingThere f own .call) es .meters .called + run (openingThere f own .call) es .meters .far
     ≡ answered (history (openingThere f own .call) es)
-destination-answered f own e es n =
+destination-answered f own e es u n =
     let h : List Step = history (openingThere f own .call) es in
-    destination-seconds f own e es ∙ unused-answered h (lastUse f false h) n
+    destination-seconds f own e es u ∙ unused-answered h (lastUse f false h) n
 
 -- The caller's meter at a destination stays 0.
 pub destination-caller : (f : ℕ) (own : Number) → openingThere f own .number ≡ 0 → (es : List Event) →
-    run (openingThere f own .call) es .meters .caller ≡ 0
-destination-caller f own e es = from-opening f own e es .caller
+    noneOpens (history (openingThere f own .call) es) ≡ true → run (openingThere f own .call) es .meters .caller ≡ 0
+destination-caller f own e es u = from-opening f own e es u .caller
 
 -- Such an opening is one whose fields are in range: flags to 31, an own number.
 pub opens-there-in-range : (f : ℕ) (own : Number) → eventOk (Opening 1 f own) ≡ true → openingThere f own .number ≡ 0

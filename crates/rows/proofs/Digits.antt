@@ -19,7 +19,7 @@ use Rattle.rows.specs.Promises.{AllRedialled, no-more, and-then, holding
 use Rattle.rows.specs.Find.{rowForOf}
 use Rattle.rows.specs.Read.{bit, errorOf, kindOf, readOf, cueOf}
 use Rattle.rows.specs.Telephone.{national}
-use Rattle.rows.specs.Step.{ifRow, takesOf, ifInRange, isOpening, isUnopened, ifTimely, ifCall, stepOf}
+use Rattle.rows.specs.Step.{ifRow, takesOf, ifInRange, isOpening, ifTimely, ifCall, stepOf}
 use Rattle.rows.specs.Valid.{tenTo, inRange, numberThere, numberAbsent, numberIf, codeOk, itemOk, presentThen, everyOne, firstFalse}
 use Rattle.rows.specs.Valid.{rangesOf, eventOk, badFieldOf, placedOf, meteredOf, payingOf, numbersHeld, validOf}
 use Rattle.rows.specs.Why.{isRow}
@@ -34,6 +34,8 @@ use Rattle.rows.specs.declared.Kind.the-variants.{Opens, Asks, Tells, Ex
 use Rattle.rows.specs.declared.Nature.{Nature}
 use Rattle.rows.specs.declared.Number.{Number}
 use Rattle.rows.specs.declared.Outcome.{Outcome}
+use Rattle.rows.specs.declared.Phase.{Phase}
+use Rattle.rows.specs.declared.Phase.the-variants.{Unopened, Null, Setup, Answered, Cleared}
 use Rattle.rows.specs.declared.Plan.{Plan}
 use Rattle.rows.specs.declared.Reading.{Reading}
 use Rattle.rows.specs.declared.Register.{Register}
@@ -232,17 +234,22 @@ module _ {c d : Call} {e e′ : Event} (y : Renumbered c d) (z : Redialled e e�
   both-in-range =
       subst (λ (b : Bool). SameAnswer (ifInRange (eventOk e) c e) (ifInRange b d e′)) (ap everyOne (ranges-alike z)) (in-range-alike (eventOk e))
 
-  timely-alike : (a b : Bool) → SameAnswer (ifTimely a b c e) (ifTimely a b d e′)
-  timely-alike true true = both-in-range
-  timely-alike true false = refused 17 0 y
-  timely-alike false true = refused 18 0 y
-  timely-alike false false = both-in-range
+  timely-alike : (p : Phase) (b : Bool) → SameAnswer (ifTimely p b c e) (ifTimely p b d e′)
+  timely-alike Unopened true = both-in-range
+  timely-alike Unopened false = refused 17 0 y
+  timely-alike Null true = refused 20 0 y
+  timely-alike Null false = both-in-range
+  timely-alike Setup true = refused 20 0 y
+  timely-alike Setup false = both-in-range
+  timely-alike Answered true = refused 20 0 y
+  timely-alike Answered false = both-in-range
+  timely-alike Cleared b = both-in-range
 
   call-alike : (b : Bool) → SameAnswer (ifCall b c e) (ifCall b d e′)
   call-alike true =
-      subst (λ (b : Bool). SameAnswer (ifCall true c e) (ifTimely (isUnopened (d .stand .phase)) b d e′)) (opening-alike z)
-      (subst (λ (p : Stand). SameAnswer (ifCall true c e) (ifTimely (isUnopened (p .phase)) (isOpening e) d e′)) (same-stand y)
-      (timely-alike (isUnopened (c .stand .phase)) (isOpening e)))
+      subst (λ (b : Bool). SameAnswer (ifCall true c e) (ifTimely (d .stand .phase) b d e′)) (opening-alike z)
+      (subst (λ (p : Stand). SameAnswer (ifCall true c e) (ifTimely (p .phase) (isOpening e) d e′)) (same-stand y)
+      (timely-alike (c .stand .phase) (isOpening e)))
   call-alike false = refused 9 0 y
 
   pub step-alike : SameAnswer (stepOf c e) (stepOf d e′)

@@ -10,7 +10,7 @@ use borrow.Author.Tests.{not-true}
 use Rattle.meters.specs.Meters.{changeOf}
 use Rattle.meters.specs.declared.Metered.the-variants.{Done}
 use Rattle.meters.specs.declared.Meters.{Meters}
-use Rattle.rows.specs.Find.{when, unopenedOf, originatingNullOf, originatingSetupIdleOf, waitSetupOf, originatingWaitAnswerOf}
+use Rattle.rows.specs.Find.{when, vacantOf, originatingNullOf, originatingSetupIdleOf, waitSetupOf, originatingWaitAnswerOf}
 use Rattle.rows.specs.Find.{originatingAnsweredIdleOf, waitActiveOf, activeOf, destinationNullOf, destinationSetupIdleOf}
 use Rattle.rows.specs.Find.{waitSetupConfOf, setupWaitCalledOf, destinationWaitAnswerOf, destinationAnsweredIdleOf, waitActiveConfOf}
 use Rattle.rows.specs.Find.{answeredWaitCalledOf, rowForOf}
@@ -18,7 +18,7 @@ use Rattle.rows.specs.Perform.{refusedAt, refusedOf, followsOf, performI
 use Rattle.rows.specs.Read.{readOf, cueOf, termsOf}
 use Rattle.rows.specs.Rows
 use Rattle.rows.specs.Rows.{planOf}
-use Rattle.rows.specs.Step.{isOpening, isUnopened, ifCall, stepOf}
+use Rattle.rows.specs.Step.{isOpening, ifCall, stepOf}
 use Rattle.rows.specs.Valid.{placedOf, validOf, eventOk}
 use Rattle.rows.specs.Why.{isRow}
 use Rattle.rows.specs.declared.Call.{Call}
@@ -261,9 +261,9 @@ module _ (g : Kind → Row → Bool) (t : Kind → Row) (o : Tried (g Opens) (t 
       }
 
 module _ (g : Kind → Row → Bool) (e : Cue) where
-  abbrev unopened : Place g (λ (k : Kind). unopenedOf k e)
-  unopened =
-      table g (λ k. unopenedOf k e) one one one one one one one one one
+  abbrev vacant : Place g (λ (k : Kind). vacantOf k e)
+  vacant =
+      table g (λ k. vacantOf k e) one one one one one one one one one
 
   abbrev originatingNull : Place g (λ (k : Kind). originatingNullOf k e)
   originatingNull =
@@ -350,7 +350,7 @@ module _ (g : Kind → Row → Bool) (e : Cue) where
   here p = record { test = p .test; law = λ h. p .law h (e .kind) }
 
   abbrev walk : (r : Role) (p : Phase) (s : RevState) → Tried (g (e .kind)) (rowForOf r p s e)
-  walk Originating Unopened s = here unopened
+  walk Originating Unopened s = here vacant
   walk Originating Null s = here originatingNull
   walk Originating Setup Idle = here originatingSetupIdle
   walk Originating Setup WaitSetup = here waitSetup
@@ -368,8 +368,8 @@ module _ (g : Kind → Row → Bool) (e : Cue) where
   walk Originating Answered WaitSetupConf = one
   walk Originating Answered WaitActiveConf = one
   walk Originating Answered WaitCalled = one
-  walk Originating Cleared s = one
-  walk Destination Unopened s = here unopened
+  walk Originating Cleared s = here vacant
+  walk Destination Unopened s = here vacant
   walk Destination Null s = here destinationNull
   walk Destination Setup Idle = here destinationSetupIdle
   walk Destination Setup WaitSetup = one
@@ -387,7 +387,7 @@ module _ (g : Kind → Row → Bool) (e : Cue) where
   walk Destination Answered WaitSetupConf = one
   walk Destination Answered WaitActiveConf = here waitActiveConf
   walk Destination Answered WaitCalled = here answeredWaitCalled
-  walk Destination Cleared s = one
+  walk Destination Cleared s = here vacant
 
 -- ---- Every role, phase and REV state
 
@@ -499,7 +499,7 @@ unlikeNine r now k p = not (eqb (p .number) 9)
 module _ (P : Outcome → Type 0) (c : Call) (e : Event) (nine : validOf c ≡ false → P (refusedOf 9 c)) (refusing : validOf c ≡ true → Refusing P c)
     (performs : validOf c ≡ true → eventOk e ≡ true → P (performed c e)) where
   is-call : (b : Bool) → validOf c ≡ b → P (ifCall b c e)
-  is-call true v = if-timely P c e (refusing v) (isUnopened (c .stand .phase)) (isOpening e) (performs v)
+  is-call true v = if-timely P c e (refusing v) (c .stand .phase) (isOpening e) (performs v)
   is-call false v = nine v
 
   pub guarded : P (stepOf c e)
@@ -523,6 +523,6 @@ module _ (P : Outcome → Type 0) (c : Call) (e : Event) (nine : validOf c ≡ f
         fifteen = refuses 15 0 v refl refl;
         sixteen = refuses 16 0 v refl refl;
         seventeen = refuses 17 0 v refl refl;
-        eighteen = refuses 18 0 v refl refl;
+        twenty = refuses 20 0 v refl refl;
       })
       (λ v o. performs v o (eqb (planFor c e .number) 0) refl)

@@ -128,7 +128,7 @@ module _ (c : Call) (e : Event) where
         fifteen = refused 15 0;
         sixteen = refused 16 0;
         seventeen = refused 17 0;
-        eighteen = refused 18 0;
+        twenty = refused 20 0;
       })
       (performs (appliesOf (planFor c e .number)) (planFor c e))
 

@@ -1,4 +1,4 @@
--- SOMEBODY PAYS, at either exchange: no step leads to ANSWERED with nobody as payer, so no history from the opening meets number 10.
+-- SOMEBODY PAYS, at either exchange: no step leads to ANSWERED with nobody as payer, so no history from an opening meets number 10.
 -- Assumes nothing.
 use mathlib.Core.Path.{_≡_, refl, sym, _∙_, ap}
 use mathlib.Core.Bool.{Bool, true, false, _&&_, _||_, not}
@@ -9,21 +9,25 @@ use borrow.Author.Tests.{not-true}
 use Rattle.meters.proofs.Laws.{gave, Moved, moved, received, timed, missing}
 use Rattle.meters.specs.Meters.{changeOf}
 use Rattle.meters.specs.declared.Change.{Change}
-use Rattle.meters.specs.declared.Change.the-variants.{Keep, CallerPays, CalledPays, FarPays, NobodyPays, EntireToCalled, EntireToFar}
-use Rattle.meters.specs.declared.Change.the-variants.{TimePasses, DurationReceived}
+use Rattle.meters.specs.declared.Change.the-variants.{Keep, Begin, CallerPays, CalledPays, FarPays, NobodyPays, EntireToCalled}
+use Rattle.meters.specs.declared.Change.the-variants.{EntireToFar, TimePasses, DurationReceived}
 use Rattle.meters.specs.declared.Metered.{Metered}
 use Rattle.meters.specs.declared.Metered.the-variants.{Done}
 use Rattle.meters.specs.declared.Meters.{Meters}
 use Rattle.meters.specs.declared.Payer.the-variants.{Nobody, Called, Far}
 use Rattle.rows.specs.Bill.{isAnswered, same}
-use Rattle.rows.specs.History.{run, history}
+use Rattle.rows.specs.History.{run, history, opening}
 use Rattle.rows.specs.Perform.{standOf, settledOf, appliesOf, performIf}
 use Rattle.rows.specs.Promises.{noneIs, unpaid}
 use Rattle.rows.specs.Read.{readOf}
-use Rattle.rows.specs.Step.{stepOf}
+use Rattle.rows.specs.Step.{unopenedCall, stepOf}
 use Rattle.rows.specs.declared.Call.{Call}
 use Rattle.rows.specs.declared.Event.{Event}
+use Rattle.rows.specs.declared.Event.the-variants.{Opening}
+use Rattle.rows.specs.declared.Number.{Number}
 use Rattle.rows.specs.declared.Outcome.{Outcome}
+use Rattle.rows.specs.declared.Phase.{Phase}
+use Rattle.rows.specs.declared.Phase.the-variants.{Answered}
 use Rattle.rows.specs.declared.Plan.{Plan}
 use Rattle.rows.specs.declared.Reading.{Reading}
 use Rattle.rows.proofs.Answers.{planFor}
@@ -34,6 +38,7 @@ use Rattle.rows.proofs.Truth.{both, differ, left, right}
 
 abbrev names : Change → Bool
 names Keep = false
+names Begin = false
 names CallerPays = true
 names CalledPays = true
 names FarPays = true
@@ -45,6 +50,7 @@ names DurationReceived = true
 
 abbrev leaves : Change → Bool
 leaves Keep = true
+leaves Begin = false
 leaves CallerPays = false
 leaves CalledPays = false
 leaves FarPays = false
@@ -61,6 +67,7 @@ metersIn Metered.TooMuch m = m
 
 named : (x : Change) (m n : Meters) (s : ℕ) → changeOf x m s ≡ Done n → names x ≡ true → same Nobody (n .payer) ≡ false
 named Keep m n s h k = differ k
+named Begin m n s h k = differ k
 named CallerPays m n s h k = ap (λ (y : Metered). same Nobody (metersIn y m .payer)) (sym h)
 named CalledPays m n s h k = ap (λ (y : Metered). same Nobody (metersIn y m .payer)) (sym h)
 named FarPays m n s h k = ap (λ (y : Metered). same Nobody (metersIn y m .payer)) (sym h)
@@ -72,6 +79,7 @@ named DurationReceived m n s h k = let g = received m n s h in ap (same Nobody) 
 
 left-alone : (x : Change) (m n : Meters) (s : ℕ) → changeOf x m s ≡ Done n → leaves x ≡ true → n .payer ≡ m .payer
 left-alone Keep m n s h k = ap (λ (y : Metered). metersIn y m .payer) (sym h)
+left-alone Begin m n s h k = differ k
 left-alone CallerPays m n s h k = differ k
 left-alone CalledPays m n s h k = differ k
 left-alone FarPays m n s h k = differ k
@@ -127,7 +135,7 @@ module _ (c : Call) (p : Plan) (r : Reading) where
 pub ten-for-the-unpaid : (c : Call) (e : Event) → unpaid c ≡ false → eqb (stepOf c e .number) 10 ≡ false
 ten-for-the-unpaid c e u =
     guarded (λ (o : Outcome). eqb (o .number) 10 ≡ false) c e (λ v. refl)
-    (λ v. record { one = refl; three = λ k. refl; fifteen = refl; sixteen = refl; seventeen = refl; eighteen = refl })
+    (λ v. record { one = refl; three = λ k. refl; fifteen = refl; sixteen = refl; seventeen = refl; twenty = refl })
     (λ v o. go (appliesOf (planFor c e .number)))
   where
     tested : (implies (timed (planFor c e .change)) (isAnswered (c .stand .phase)) && not (eqb (planFor c e .number) 10)) ≡ true
@@ -149,3 +157,10 @@ paid-on c (e ∷ es) u = paid-on (stepOf c e .call) es (paid-stays c e u)
 pub never-ten : (c : Call) (es : List Event) → unpaid c ≡ false → noneIs 10 (history c es) ≡ true
 never-ten c [] u = refl
 never-ten c (e ∷ es) u = both (ap not (ten-for-the-unpaid c e u)) (never-ten (stepOf c e .call) es (paid-stays c e u))
+
+-- nor does any from an opening reach ANSWERED with nobody as payer, whatever is opened after it
+pub somebody-pays : (f : ℕ) (own : Number) → opening f own .number ≡ 0 → (es : List Event) →
+    run (opening f own .call) es .stand .phase ≡ Answered → run (opening f own .call) es .meters .payer ≡ Nobody → ⊥
+somebody-pays f own e es p q =
+    differ (sym (paid-on (opening f own .call) es (paid-stays unopenedCall (Opening 0 f own) refl))
+    ∙ ap (λ (x : Phase). isAnswered x && same Nobody (run (opening f own .call) es .meters .payer)) p ∙ ap (same Nobody) q)

@@ -18,7 +18,7 @@ use Rattle.rows.specs.Promises.{sent, holding, isAnswer, isFacility, bar
 use Rattle.rows.specs.Promises.{calledTurns, setupTold, answeredTold, messageTurns, accessTurns, takesEffect, InEffect}
 use Rattle.rows.specs.Read.{bit, lowest, interactionBy, modeBy, extentBy}
 use Rattle.rows.specs.Rows
-use Rattle.rows.specs.Step.{totalOf, takesOf, isOpening, isUnopened, stepOf}
+use Rattle.rows.specs.Step.{totalOf, takesOf, isOpening, stepOf}
 use Rattle.rows.specs.Valid.{placedOf, meteredOf, validOf, eventOk}
 use Rattle.rows.specs.declared.Call.{Call}
 use Rattle.rows.specs.declared.Component.{Component}
@@ -42,7 +42,7 @@ use Rattle.rows.specs.declared.RevState.the-variants.{Idle, WaitSetup, W
 use Rattle.rows.specs.declared.RevState.the-variants.{WaitCalled}
 use Rattle.rows.specs.declared.Role.{Role}
 use Rattle.rows.specs.declared.Role.the-variants.{Originating, Destination}
-use Rattle.rows.proofs.Answers.{row-decides, opened-then}
+use Rattle.rows.proofs.Answers.{row-decides, opened-then, isUnopened}
 use Rattle.rows.proofs.Placed.{placed}
 use Rattle.rows.proofs.Stays.{within-limit}
 use Rattle.rows.proofs.Truth.{differ, left, right, both, either}

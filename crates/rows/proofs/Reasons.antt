@@ -2,7 +2,7 @@
 -- Assumes nothing.
 use mathlib.Core.Path.{_≡_, refl, sym, _∙_, ap, subst}
 use mathlib.Core.Bool.{Bool, true, false, _&&_, _||_}
-use mathlib.Core.Logic.{_↔_}
+use mathlib.Core.Logic.{_↔_, _⊎_, inl, inr}
 use Prim.Native.Nat.{ℕ}
 use lib.Dec.{eqb}
 use borrow.Author.Tests.{eqb-true, eq-eqb}
@@ -10,9 +10,10 @@ use Rattle.meters.specs.Meters.{changeOf}
 use Rattle.rows.specs.Find.{rowForOf}
 use Rattle.rows.specs.Perform.{refusedAt, refusedOf, performIf}
 use Rattle.rows.specs.Read.{askedOf, toldOf, heardOf, kindOf, readOf, cueOf, termsOf}
-use Rattle.rows.specs.Reasons.{Timely, Looked, rowAt, HasRowIn, Never, OnlyElsewhere, OtherState, reason, SameComponent, no-component, an-invoke, a-result}
+use Rattle.rows.specs.Reasons.{Vacant, Timely, Looked, rowAt, HasRowIn, Never, OnlyElsewhere, OtherState, reason, SameComponent}
+use Rattle.rows.specs.Reasons.{no-component, an-invoke, a-result}
 use Rattle.rows.specs.Reasons.{an-error, a-reject, SameEvent, an-opening, a-request, a-message, an-access, an-expiry, a-time}
-use Rattle.rows.specs.Step.{ifRow, takesOf, ifInRange, isOpening, isUnopened, ifTimely, ifCall, stepOf}
+use Rattle.rows.specs.Step.{ifRow, takesOf, ifInRange, isOpening, untimelyOf, inTime, ifTimely, ifCall, stepOf, mayOpen}
 use Rattle.rows.specs.Valid.{pickℕ, placedOf, validOf, eventOk, badFieldOf}
 use Rattle.rows.specs.Why.{isRow, someState, somePhase, rowIn, rowEver, whyOf}
 use Rattle.rows.specs.declared.Call.{Call}
@@ -34,41 +35,71 @@ use Rattle.rows.specs.declared.Role.{Role}
 use Rattle.rows.specs.declared.Role.the-variants.{Originating, Destination}
 use Rattle.rows.specs.declared.Row.{Row}
 use Rattle.rows.specs.declared.Row.the-variants.{NoRow}
-use Rattle.rows.proofs.Answers.{planFor, performed, settled, row-or-none, by-why}
+use Rattle.rows.proofs.Answers.{planFor, performed, settled, row-or-none, by-why, isUnopened}
 use Rattle.rows.proofs.Found.{row-plans}
 use Rattle.rows.proofs.Progress.{valid-place}
 use Rattle.rows.proofs.Truth.{both, differ, either, left, or-true, right}
 
--- ---- Before the opening: the test, and what it says
-
-unopened-is : (p : Phase) → isUnopened p ≡ true → p ≡ Unopened
-unopened-is Unopened h = refl
-unopened-is Null h = differ h
-unopened-is Setup h = differ h
-unopened-is Answered h = differ h
-unopened-is Cleared h = differ h
+-- ---- In its time: the test, and what it says
 
 is-false : (b : Bool) → (b ≡ true → ⊥) → b ≡ false
 is-false true h = absurd (h refl)
 is-false false h = refl
 
-opened-is : (p : Phase) → isUnopened p ≡ false → p ≡ Unopened → ⊥
-opened-is p h i = differ (sym h ∙ ap isUnopened i)
+pub not-equal : {A : Type 0} (n m : ℕ) → eqb n m ≡ false → n ≡ m → A
+not-equal n m h i = differ (sym h ∙ eq-eqb n m i)
 
-in-its-time : (p : Phase) (b : Bool) → isUnopened p ≡ b → (p ≡ Unopened) ↔ (b ≡ true)
-in-its-time p b t = (λ h. sym t ∙ ap isUnopened h, λ h. unopened-is p (t ∙ h))
+pub vacant-is : (p : Phase) → mayOpen p ≡ true → Vacant p
+vacant-is Unopened h = inl refl
+vacant-is Null h = differ h
+vacant-is Setup h = differ h
+vacant-is Answered h = differ h
+vacant-is Cleared h = inr refl
 
-time-test : (p : Phase) (b : Bool) → (p ≡ Unopened) ↔ (b ≡ true) → isUnopened p ≡ b
-time-test p true w = ap isUnopened (w .1 refl)
-time-test p false w = is-false (isUnopened p) (λ h. differ (w .0 (unopened-is p h)))
+pub vacant-may : (p : Phase) → Vacant p → mayOpen p ≡ true
+vacant-may p (inl h) = ap mayOpen h
+vacant-may p (inr h) = ap mayOpen h
+
+-- what the test of the time says, and what follows from it
+abbrev InTime : Phase → Bool → Type 0
+InTime p b = (b ≡ true → Vacant p) × (b ≡ false → p ≡ Unopened → ⊥)
+
+in-its-time : (p : Phase) (b : Bool) → untimelyOf p b ≡ 0 → InTime p b
+in-its-time Unopened true t = (λ h. inl refl, λ h. differ (sym h))
+in-its-time Unopened false t = not-equal 17 0 refl t
+in-its-time Null true t = not-equal 20 0 refl t
+in-its-time Null false t = (λ h. differ h, λ h i. differ (ap isUnopened i))
+in-its-time Setup true t = not-equal 20 0 refl t
+in-its-time Setup false t = (λ h. differ h, λ h i. differ (ap isUnopened i))
+in-its-time Answered true t = not-equal 20 0 refl t
+in-its-time Answered false t = (λ h. differ h, λ h i. differ (ap isUnopened i))
+in-its-time Cleared b t = (λ h. inr refl, λ h i. differ (ap isUnopened i))
+
+time-test : (p : Phase) (b : Bool) → InTime p b → untimelyOf p b ≡ 0
+time-test Unopened true w = refl
+time-test Unopened false w = absurd (w .1 refl refl)
+time-test Null true w = differ (vacant-may Null (w .0 refl))
+time-test Null false w = refl
+time-test Setup true w = differ (vacant-may Setup (w .0 refl))
+time-test Setup false w = refl
+time-test Answered true w = differ (vacant-may Answered (w .0 refl))
+time-test Answered false w = refl
+time-test Cleared b w = refl
+
+in-use-20 : (p : Phase) → mayOpen p ≡ false → untimelyOf p true ≡ 20
+in-use-20 Unopened h = differ (sym h)
+in-use-20 Null h = refl
+in-use-20 Setup h = refl
+in-use-20 Answered h = refl
+in-use-20 Cleared h = differ (sym h)
 
 -- ---- The six ways
 
 pub data Way (c : Call) (e : Event) : Outcome → Type 0 where
   no-call : validOf c ≡ false → Way c e (refusedOf 9 c)
-  too-early : validOf c ≡ true → isUnopened (c .stand .phase) ≡ true → isOpening e ≡ false → Way c e (refusedOf 17 c)
-  once-more : validOf c ≡ true → isUnopened (c .stand .phase) ≡ false → isOpening e ≡ true → Way c e (refusedOf 18 c)
-  out-of-range : validOf c ≡ true → isUnopened (c .stand .phase) ≡ isOpening e → eventOk e ≡ false → Way c e (refusedAt 3 (badFieldOf e) c)
+  too-early : validOf c ≡ true → c .stand .phase ≡ Unopened → isOpening e ≡ false → Way c e (refusedOf 17 c)
+  in-use : validOf c ≡ true → mayOpen (c .stand .phase) ≡ false → isOpening e ≡ true → Way c e (refusedOf 20 c)
+  out-of-range : validOf c ≡ true → Timely c e → eventOk e ≡ false → Way c e (refusedAt 3 (badFieldOf e) c)
   no-row : Looked c e → isRow (rowAt (c .side .role) (c .stand .phase) (c .stand .rev) e) ≡ false →
       Way c e (refusedOf (whyOf (c .side .role) (c .stand .phase) (cueOf (readOf e))) c)
   a-row : Looked c e → isRow (rowAt (c .side .role) (c .stand .phase) (c .stand .rev) e) ≡ true → Way c e (performed c e)
@@ -81,18 +112,28 @@ module _ (c : Call) (e : Event) where
   by-row l true h = a-row l h
   by-row l false h = no-row l h
 
-  by-range : validOf c ≡ true → isUnopened (c .stand .phase) ≡ isOpening e → (b : Bool) → eventOk e ≡ b → Way c e (ifInRange b c e)
-  by-range v t true h = by-row (record { valid = v; timely = in-its-time (c .stand .phase) (isOpening e) t; ranged = h }) (isRow row) refl
+  by-range : validOf c ≡ true → Timely c e → (b : Bool) → eventOk e ≡ b → Way c e (ifInRange b c e)
+  by-range v t true h = by-row (record { valid = v; timely = t; ranged = h }) (isRow row) refl
   by-range v t false h = out-of-range v t h
 
-  by-time : validOf c ≡ true → (a b : Bool) → isUnopened (c .stand .phase) ≡ a → isOpening e ≡ b → Way c e (ifTimely a b c e)
-  by-time v true true h i = by-range v (h ∙ sym i) (eventOk e) refl
-  by-time v true false h i = too-early v h i
-  by-time v false true h i = once-more v h i
-  by-time v false false h i = by-range v (h ∙ sym i) (eventOk e) refl
+  -- the test of the time passed
+  timely : (p : Phase) (b : Bool) → c .stand .phase ≡ p → isOpening e ≡ b → untimelyOf p b ≡ 0 → Timely c e
+  timely p b h i t =
+      in-its-time (c .stand .phase) (isOpening e) (ap (λ (x : Phase). untimelyOf x (isOpening e)) h ∙ ap (untimelyOf p) i ∙ t)
+
+  by-time : validOf c ≡ true → (p : Phase) (b : Bool) → c .stand .phase ≡ p → isOpening e ≡ b → Way c e (ifTimely p b c e)
+  by-time v Unopened true h i = by-range v (timely Unopened true h i refl) (eventOk e) refl
+  by-time v Unopened false h i = too-early v h i
+  by-time v Null true h i = in-use v (ap mayOpen h) i
+  by-time v Null false h i = by-range v (timely Null false h i refl) (eventOk e) refl
+  by-time v Setup true h i = in-use v (ap mayOpen h) i
+  by-time v Setup false h i = by-range v (timely Setup false h i refl) (eventOk e) refl
+  by-time v Answered true h i = in-use v (ap mayOpen h) i
+  by-time v Answered false h i = by-range v (timely Answered false h i refl) (eventOk e) refl
+  by-time v Cleared b h i = by-range v (timely Cleared b h i refl) (eventOk e) refl
 
   by-call : (b : Bool) → validOf c ≡ b → Way c e (ifCall b c e)
-  by-call true h = by-time h (isUnopened (c .stand .phase)) (isOpening e) refl refl
+  by-call true h = by-time h (c .stand .phase) (isOpening e) refl refl
   by-call false h = no-call h
 
   pub way : Way c e (stepOf c e)
@@ -129,22 +170,19 @@ aReason n = eqb n 1 || (eqb n 15 || eqb n 16)
 why-a-reason : (r : Role) (p : Phase) (e : Cue) → aReason (whyOf r p e) ≡ true
 why-a-reason r p e = by-why (λ (n : ℕ). aReason n ≡ true) r p e refl refl refl
 
-not-a-reason : {A : Type 0} (r : Role) (p : Phase) (e : Cue) (m : ℕ) → aReason m ≡ false → whyOf r p e ≡ m → A
+pub not-a-reason : {A : Type 0} (r : Role) (p : Phase) (e : Cue) (m : ℕ) → aReason m ≡ false → whyOf r p e ≡ m → A
 not-a-reason r p e m h i = differ (sym h ∙ sym (ap aReason i) ∙ why-a-reason r p e)
-
-not-equal : {A : Type 0} (n m : ℕ) → eqb n m ≡ false → n ≡ m → A
-not-equal n m h i = differ (sym h ∙ eq-eqb n m i)
 
 -- what follows from a number that no row gives, by the ways that may give it
 module _ (c : Call) (e : Event) (n : ℕ) (q : ofARow n ≡ false) {A : Type 0} (nine : validOf c ≡ false → 9 ≡ n → A)
-    (early : validOf c ≡ true → isUnopened (c .stand .phase) ≡ true → isOpening e ≡ false → 17 ≡ n → A)
-    (again : validOf c ≡ true → isUnopened (c .stand .phase) ≡ false → isOpening e ≡ true → 18 ≡ n → A)
-    (bad : validOf c ≡ true → isUnopened (c .stand .phase) ≡ isOpening e → eventOk e ≡ false → 3 ≡ n → A)
+    (early : validOf c ≡ true → c .stand .phase ≡ Unopened → isOpening e ≡ false → 17 ≡ n → A)
+    (again : validOf c ≡ true → mayOpen (c .stand .phase) ≡ false → isOpening e ≡ true → 20 ≡ n → A)
+    (bad : validOf c ≡ true → Timely c e → eventOk e ≡ false → 3 ≡ n → A)
     (missing : Looked c e → isRow (row c e) ≡ false → whyOf (c .side .role) (c .stand .phase) (cueOf (readOf e)) ≡ n → A) where
   by-way : {o : Outcome} → Way c e o → o .number ≡ n → A
   by-way (no-call v) h = nine v h
   by-way (too-early v u i) h = early v u i h
-  by-way (once-more v u i) h = again v u i h
+  by-way (in-use v u i) h = again v u i h
   by-way (out-of-range v t k) h = bad v t k h
   by-way (no-row l w) h = missing l w h
   by-way (a-row l w) h = not-of-a-row (performed c e .number) n (row-number c e w) q h
@@ -152,48 +190,50 @@ module _ (c : Call) (e : Event) (n : ℕ) (q : ofARow n ≡ false) {A : Type 0} 
   by-number : stepOf c e .number ≡ n → A
   by-number = by-way (way c e)
 
--- ---- 17, 18 and 3
+-- ---- 17, 20 and 3
 
 pub seventeen-exactly : (c : Call) (e : Event) →
     (stepOf c e .number ≡ 17) ↔ ((validOf c ≡ true) × (c .stand .phase ≡ Unopened) × (isOpening e ≡ false))
 seventeen-exactly c e = (
-  by-number c e 17 refl (λ v. not-equal 9 17 refl) (λ v u i h. (v, unopened-is _ u, i)) (λ v u i. not-equal 18 17 refl) (λ v t k. not-equal 3 17 refl)
+  by-number c e 17 refl (λ v. not-equal 9 17 refl) (λ v u i h. (v, u, i)) (λ v u i. not-equal 20 17 refl) (λ v t k. not-equal 3 17 refl)
       (λ l w. not-a-reason (c .side .role) (c .stand .phase) (cueOf (readOf e)) 17 refl),
   given,
 )
   where
     given : (validOf c ≡ true) × (c .stand .phase ≡ Unopened) × (isOpening e ≡ false) → stepOf c e .number ≡ 17
     given (v, u, i) =
-        ap (λ (b : Bool). ifCall b c e .number) v ∙ ap (λ (b : Bool). ifTimely b (isOpening e) c e .number) (ap isUnopened u)
-        ∙ ap (λ (b : Bool). ifTimely true b c e .number) i
+        ap (λ (b : Bool). ifCall b c e .number) v ∙ ap (λ (p : Phase). ifTimely p (isOpening e) c e .number) u
+        ∙ ap (λ (b : Bool). ifTimely Unopened b c e .number) i
 
-pub eighteen-exactly : (c : Call) (e : Event) →
-    (stepOf c e .number ≡ 18) ↔ ((validOf c ≡ true) × (c .stand .phase ≡ Unopened → ⊥) × (isOpening e ≡ true))
-eighteen-exactly c e = (
-  by-number c e 18 refl (λ v. not-equal 9 18 refl) (λ v u i. not-equal 17 18 refl) (λ v u i h. (v, opened-is _ u, i)) (λ v t k. not-equal 3 18 refl)
-      (λ l w. not-a-reason (c .side .role) (c .stand .phase) (cueOf (readOf e)) 18 refl),
+pub twenty-exactly : (c : Call) (e : Event) →
+    (stepOf c e .number ≡ 20)
+    ↔ ((validOf c ≡ true) × (c .stand .phase ≡ Unopened → ⊥) × (c .stand .phase ≡ Cleared → ⊥) × (isOpening e ≡ true))
+twenty-exactly c e = (
+  by-number c e 20 refl (λ v. not-equal 9 20 refl) (λ v u i. not-equal 17 20 refl)
+      (λ v u i h. (v, λ p. differ (sym u ∙ ap mayOpen p), λ p. differ (sym u ∙ ap mayOpen p), i)) (λ v t k. not-equal 3 20 refl)
+      (λ l w. not-a-reason (c .side .role) (c .stand .phase) (cueOf (readOf e)) 20 refl),
   given,
 )
   where
-    given : (validOf c ≡ true) × (c .stand .phase ≡ Unopened → ⊥) × (isOpening e ≡ true) → stepOf c e .number ≡ 18
-    given (v, u, i) =
-        ap (λ (b : Bool). ifCall b c e .number) v
-        ∙ ap (λ (b : Bool). ifTimely b (isOpening e) c e .number) (is-false (isUnopened (c .stand .phase)) (λ h. u (unopened-is _ h)))
-        ∙ ap (λ (b : Bool). ifTimely false b c e .number) i
+    neither : (c .stand .phase ≡ Unopened → ⊥) → (c .stand .phase ≡ Cleared → ⊥) → Vacant (c .stand .phase) → ⊥
+    neither u w (inl h) = u h
+    neither u w (inr h) = w h
+
+    given : (validOf c ≡ true) × (c .stand .phase ≡ Unopened → ⊥) × (c .stand .phase ≡ Cleared → ⊥) × (isOpening e ≡ true) →
+        stepOf c e .number ≡ 20
+    given (v, u, w, i) =
+        ap (λ (b : Bool). ifCall b c e .number) v ∙ ap (λ (b : Bool). ifTimely (c .stand .phase) b c e .number) i
+        ∙ ap (λ (n : ℕ). inTime (eqb n 0) n c e .number)
+        (in-use-20 (c .stand .phase) (is-false (mayOpen (c .stand .phase)) (λ h. neither u w (vacant-is (c .stand .phase) h))))
 
 -- timely: nothing but the fields and the tables is left to judge
-both-ways : (c : Call) (e : Event) (a : Bool) → ifTimely a a c e ≡ ifInRange (eventOk e) c e
-both-ways c e true = refl
-both-ways c e false = refl
-
-timely-step : (c : Call) (e : Event) → validOf c ≡ true → Timely c e → stepOf c e ≡ ifInRange (eventOk e) c e
+pub timely-step : (c : Call) (e : Event) → validOf c ≡ true → Timely c e → stepOf c e ≡ ifInRange (eventOk e) c e
 timely-step c e v t =
-    ap (λ (b : Bool). ifCall b c e) v ∙ ap (λ (b : Bool). ifTimely b (isOpening e) c e) (time-test (c .stand .phase) (isOpening e) t)
-    ∙ both-ways c e (isOpening e)
+    ap (λ (b : Bool). ifCall b c e) v ∙ ap (λ (n : ℕ). inTime (eqb n 0) n c e) (time-test (c .stand .phase) (isOpening e) t)
 
 pub three-exactly : (c : Call) (e : Event) → (stepOf c e .number ≡ 3) ↔ ((validOf c ≡ true) × Timely c e × (eventOk e ≡ false))
 three-exactly c e = (
-  by-number c e 3 refl (λ v. not-equal 9 3 refl) (λ v u i. not-equal 17 3 refl) (λ v u i. not-equal 18 3 refl) (λ v t k h. (v, in-its-time _ _ t, k))
+  by-number c e 3 refl (λ v. not-equal 9 3 refl) (λ v u i. not-equal 17 3 refl) (λ v u i. not-equal 20 3 refl) (λ v t k h. (v, t, k))
       (λ l w. not-a-reason (c .side .role) (c .stand .phase) (cueOf (readOf e)) 3 refl),
   given,
 )
@@ -208,7 +248,7 @@ three-tells c e = told (way c e)
     told : {o : Outcome} → Way c e o → o .number ≡ 3 → o .field ≡ badFieldOf e
     told (no-call v) h = not-equal 9 3 refl h
     told (too-early v u i) h = not-equal 17 3 refl h
-    told (once-more v u i) h = not-equal 18 3 refl h
+    told (in-use v u i) h = not-equal 20 3 refl h
     told (out-of-range v t k) h = refl
     told (no-row l w) h = not-a-reason (c .side .role) (c .stand .phase) (cueOf (readOf e)) 3 refl h
     told (a-row l w) h = not-of-a-row (performed c e .number) 3 (row-number c e w) refl h
@@ -219,7 +259,7 @@ else-no-field c e = told (way c e)
     told : {o : Outcome} → Way c e o → (o .number ≡ 3 → ⊥) → o .field ≡ 0
     told (no-call v) h = refl
     told (too-early v u i) h = refl
-    told (once-more v u i) h = refl
+    told (in-use v u i) h = refl
     told (out-of-range v t k) h = absurd (h refl)
     told (no-row l w) h = refl
     told (a-row l w) h = performed-field c (planFor c e) (readOf e) (eqb (planFor c e .number) 0)
@@ -339,7 +379,7 @@ module _ (c : Call) (e : Event) where
 
   pub one-exactly : (stepOf c e .number ≡ 1) ↔ (Looked c e × Never R e)
   one-exactly = (
-    by-number c e 1 refl (λ v. not-equal 9 1 refl) (λ v u i. not-equal 17 1 refl) (λ v u i. not-equal 18 1 refl) (λ v t k. not-equal 3 1 refl)
+    by-number c e 1 refl (λ v. not-equal 9 1 refl) (λ v u i. not-equal 17 1 refl) (λ v u i. not-equal 20 1 refl) (λ v t k. not-equal 3 1 refl)
         (λ l w h. (l, one R e P (rowIn R P (cueOf (readOf e))) (rowEver R (cueOf (readOf e))) refl refl h)),
     given,
   )
@@ -353,7 +393,7 @@ module _ (c : Call) (e : Event) where
 
   pub fifteen-exactly : (stepOf c e .number ≡ 15) ↔ (Looked c e × OnlyElsewhere R P e)
   fifteen-exactly = (
-    by-number c e 15 refl (λ v. not-equal 9 15 refl) (λ v u i. not-equal 17 15 refl) (λ v u i. not-equal 18 15 refl) (λ v t k. not-equal 3 15 refl)
+    by-number c e 15 refl (λ v. not-equal 9 15 refl) (λ v u i. not-equal 17 15 refl) (λ v u i. not-equal 20 15 refl) (λ v t k. not-equal 3 15 refl)
         (λ l w h. (l, fifteen R e P (rowIn R P (cueOf (readOf e))) (rowEver R (cueOf (readOf e))) refl refl h)),
     given,
   )
@@ -366,7 +406,7 @@ module _ (c : Call) (e : Event) where
 
   pub sixteen-exactly : (stepOf c e .number ≡ 16) ↔ (Looked c e × OtherState R P (c .stand .rev) e)
   sixteen-exactly = (
-    by-number c e 16 refl (λ v. not-equal 9 16 refl) (λ v u i. not-equal 17 16 refl) (λ v u i. not-equal 18 16 refl) (λ v t k. not-equal 3 16 refl)
+    by-number c e 16 refl (λ v. not-equal 9 16 refl) (λ v u i. not-equal 17 16 refl) (λ v u i. not-equal 20 16 refl) (λ v t k. not-equal 3 16 refl)
         (λ l w h. (l, (is-none _ w, sixteen R e P (rowIn R P (cueOf (readOf e))) refl h))),
     given,
   )
@@ -377,12 +417,9 @@ module _ (c : Call) (e : Event) where
 
 -- ---- What the reason depends on
 
--- by whether the call was opened, whether the event is an opening, whether a row was found, and else why
-abbrev reasonAt : Bool → Bool → Bool → ℕ → ℕ
-reasonAt true true w n = pickℕ w 0 n
-reasonAt true false w n = 17
-reasonAt false true w n = 18
-reasonAt false false w n = pickℕ w 0 n
+-- by the time of the event (17, 20 or 0), whether a row was found, and else why
+abbrev reasonAt : ℕ → Bool → ℕ → ℕ
+reasonAt u w n = pickℕ (eqb u 0) (pickℕ w 0 n) u
 
 row-no-reason : (n : ℕ) → ofARow n ≡ true → reason n ≡ 0
 row-no-reason n h =
@@ -391,7 +428,7 @@ row-no-reason n h =
     either (eqb n 4) _ h (λ i. ap reason (eqb-true n 4 i)) (λ i. ap reason (eqb-true n 10 i))))
 
 abbrev reasonBy : Role → Phase → RevState → Cue → Bool → ℕ
-reasonBy r p s q o = reasonAt (isUnopened p) o (isRow (rowForOf r p s q)) (whyOf r p q)
+reasonBy r p s q o = reasonAt (untimelyOf p o) (isRow (rowForOf r p s q)) (whyOf r p q)
 
 module _ (c : Call) (e : Event) (v : validOf c ≡ true) (k : eventOk e ≡ true) where
   of-the-row : (b : Bool) → isRow (row c e) ≡ b →
@@ -402,19 +439,25 @@ module _ (c : Call) (e : Event) (v : validOf c ≡ true) (k : eventOk e ≡ true
   ranged-reason : reason (ifInRange (eventOk e) c e .number) ≡ pickℕ (isRow (row c e)) 0 (whyOf (c .side .role) (c .stand .phase) (cueOf (readOf e)))
   ranged-reason = ap (λ (b : Bool). reason (ifInRange b c e .number)) k ∙ of-the-row (isRow (row c e)) refl
 
-  timed-reason : (a b : Bool) →
-      reason (ifTimely a b c e .number) ≡ reasonAt a b (isRow (row c e)) (whyOf (c .side .role) (c .stand .phase) (cueOf (readOf e)))
-  timed-reason true true = ranged-reason
-  timed-reason true false = refl
-  timed-reason false true = refl
-  timed-reason false false = ranged-reason
+  timed-reason : (p : Phase) (b : Bool) →
+      reason (ifTimely p b c e .number)
+      ≡ reasonAt (untimelyOf p b) (isRow (row c e)) (whyOf (c .side .role) (c .stand .phase) (cueOf (readOf e)))
+  timed-reason Unopened true = ranged-reason
+  timed-reason Unopened false = refl
+  timed-reason Null true = refl
+  timed-reason Null false = ranged-reason
+  timed-reason Setup true = refl
+  timed-reason Setup false = ranged-reason
+  timed-reason Answered true = refl
+  timed-reason Answered false = ranged-reason
+  timed-reason Cleared b = ranged-reason
 
   by-place : reason (stepOf c e .number) ≡ reasonBy (c .side .role) (c .stand .phase) (c .stand .rev) (cueOf (readOf e)) (isOpening e)
-  by-place = ap (λ (b : Bool). reason (ifCall b c e .number)) v ∙ timed-reason (isUnopened (c .stand .phase)) (isOpening e)
+  by-place = ap (λ (b : Bool). reason (ifCall b c e .number)) v ∙ timed-reason (c .stand .phase) (isOpening e)
 
 -- an opening's role and flags are not looked at
 opening-reason : (r : Role) (p : Phase) (s : RevState) (k f : ℕ) (n : Number) →
-    reasonBy r p s (cueOf (readOf (Opening k f n))) true ≡ pickℕ (isUnopened p) 0 18
+    reasonBy r p s (cueOf (readOf (Opening k f n))) true ≡ pickℕ (mayOpen p) 0 20
 opening-reason Originating Unopened s k f n = refl
 opening-reason Originating Null s k f n = refl
 opening-reason Originating Setup s k f n = refl

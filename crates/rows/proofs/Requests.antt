@@ -13,7 +13,7 @@ use Rattle.rows.specs.Find.{rowForOf}
 use Rattle.rows.specs.Perform.{noteOf, noNote, performIf, performOf}
 use Rattle.rows.specs.Promises.{sent, isFacility, isInvoke, errorIs, tellsRunning, asksReversal, saysNoRow, requestHasRow, invokeHasRow}
 use Rattle.rows.specs.Read.{readOf, cueOf, termsOf}
-use Rattle.rows.specs.Step.{ifRow, takesOf, isOpening, isUnopened, ifTimely, ifCall, stepOf}
+use Rattle.rows.specs.Step.{ifRow, takesOf, isOpening, ifTimely, ifCall, stepOf}
 use Rattle.rows.specs.Valid.{validOf, eventOk}
 use Rattle.rows.specs.Why.{isRow}
 use Rattle.rows.specs.declared.Call.{Call}
@@ -33,7 +33,7 @@ use Rattle.rows.specs.declared.RevState.{RevState}
 use Rattle.rows.specs.declared.Role.{Role}
 use Rattle.rows.specs.declared.Row.{Row}
 use Rattle.rows.specs.declared.Terms.{Terms}
-use Rattle.rows.proofs.Answers.{planFor, performed, settled, by-why, has-plan, refused-or-performed}
+use Rattle.rows.proofs.Answers.{planFor, performed, settled, by-why, has-plan, refused-or-performed, isUnopened}
 use Rattle.rows.proofs.Below.{every, below}
 use Rattle.rows.proofs.Found.{implies, so, row-plans, wherever, at-place}
 use Rattle.rows.proofs.Progress.{valid-place, with-these}
@@ -83,10 +83,13 @@ module _ (c : Call) (e : Event) where
   by-the-table false w = no-plan (isRow found) refl w
 
   -- before the opening it is 17
-  in-time : (h a : Bool) → (a ≡ true → h ≡ false) → isOpening e ≡ false → eventOk e ≡ true → oneUnless h (planFor c e) ≡ true →
-      Said (ifTimely a (isOpening e) c e) (not h)
-  in-time h true u o k w = rw (u refl, o) refl
-  in-time h false u o k w = rw (o, k) (by-the-table h w)
+  in-time : (h : Bool) (p : Phase) → (isUnopened p ≡ true → h ≡ false) → isOpening e ≡ false → eventOk e ≡ true →
+      oneUnless h (planFor c e) ≡ true → Said (ifTimely p (isOpening e) c e) (not h)
+  in-time h Unopened u o k w = rw (u refl, o) refl
+  in-time h Null u o k w = rw (o, k) (by-the-table h w)
+  in-time h Setup u o k w = rw (o, k) (by-the-table h w)
+  in-time h Answered u o k w = rw (o, k) (by-the-table h w)
+  in-time h Cleared u o k w = rw k (by-the-table h w)
 
 -- ---- A test of the plan that every request, and every invoke in range, finds: computed once, at every place
 
@@ -129,7 +132,7 @@ no-row-exactly : (c : Call) (e : Event) (f : Phase → Bool) → validOf c ≡ t
     oneUnless (f (c .stand .phase)) (planFor c e) ≡ true → saysNoRow (stepOf c e .number) ≡ not (f (c .stand .phase))
 no-row-exactly c e f v o k u w =
     subst (λ (b : Bool). Said (ifCall b c e) (not (f (c .stand .phase)))) (sym v)
-    (in-time c e (f (c .stand .phase)) (isUnopened (c .stand .phase)) (at-first (c .stand .phase)) o k w)
+    (in-time c e (f (c .stand .phase)) (c .stand .phase) (at-first (c .stand .phase)) o k w)
   where
     at-first : (p : Phase) → isUnopened p ≡ true → f p ≡ false
     at-first Unopened h = u
@@ -177,7 +180,7 @@ noted : (c : Call) (e : Event) (P : Note → Bool) → P noNote ≡ false → P 
 noted c e P z =
     let w : P noNote ≡ true → P (performed c e .note) ≡ true = λ h. differ (sym z ∙ h) in
     refused-or-performed (λ (o : Outcome). P (o .note) ≡ true → P (performed c e .note) ≡ true) c e w
-    (record { one = w; three = λ k. w; fifteen = w; sixteen = w; seventeen = w; eighteen = w }) (λ h. h)
+    (record { one = w; three = λ k. w; fifteen = w; sixteen = w; seventeen = w; twenty = w }) (λ h. h)
 
 pub told-only-running : (c : Call) (q : ℕ) (n : Number) → validOf c ≡ true → eventOk (Ask q n) ≡ true →
     eqb (stepOf c (Ask q n) .note .error) 12 ≡ true → (tellsRunning (c .stand .rev) && asksReversal q) ≡ true

@@ -1,14 +1,18 @@
 -- The reversal of an originating call: who pays now; one reversal at most; a bill once made stays.
 -- Assumes nothing.
 use mathlib.Core.Path.{_≡_, refl, sym, _∙_, ap, subst}
-use mathlib.Core.Bool.{Bool, true, false, _&&_}
+use mathlib.Core.Bool.{Bool, true, false, _&&_, not}
 use mathlib.Core.List.{List, [], _∷_, _++_}
 use Prim.Native.Nat.{ℕ, _+_, _≤_}
 use native.Mathlib.Omega.{arith}
 use Rattle.rows.specs.Bill.{pick, Step, accepted, isAnswered, counted, secondsIn, isRev, Case, Mark, plain, second, reversed, Paid}
 use Rattle.rows.specs.Bill.{Took, nothing, took, turns, inEffect, said, waits, mark, marks, reversal, payer, payments, bill}
+use Rattle.rows.specs.Bill.{anOpening, opens, noneOpens}
 use Rattle.rows.specs.History.{run, written, history, opening}
 use Rattle.rows.specs.Promises.{reversals, Extends, with-more}
+use Rattle.rows.specs.Perform.{performOf}
+use Rattle.rows.specs.Read.{readOf, termsOf}
+use Rattle.rows.specs.Rows.{planOf}
 use Rattle.rows.specs.Step.{stepOf}
 use Rattle.rows.specs.declared.Call.{Call}
 use Rattle.rows.specs.declared.Event.{Event}
@@ -18,10 +22,12 @@ use Rattle.rows.specs.declared.Phase.{Phase}
 use Rattle.rows.specs.declared.Phase.the-variants.{Unopened, Null, Setup, Answered, Cleared}
 use Rattle.rows.specs.declared.RevState.{RevState}
 use Rattle.rows.specs.declared.RevState.the-variants.{Active}
+use Rattle.rows.specs.declared.Row.{Row}
 use Rattle.rows.proofs.Answers.{refused-or-performed}
-use Rattle.rows.proofs.Truth.{differ}
+use Rattle.rows.proofs.Truth.{both, differ, left, right}
 use Rattle.rows.proofs.Whole.{Known, known, note, noteSeconds, readAll, waiting, Agrees, null, setup, asked-A, asked-D, talks}
-use Rattle.rows.proofs.Whole.{asked-B, turned, over, keeps, reached, from-opening}
+use Rattle.rows.proofs.Whole.{asked-B, turned, over, after-clearing, Unopening, keeps, first-unopening, rest-unopening, reached}
+use Rattle.rows.proofs.Whole.{from-opening}
 
 -- ---- Who pays now
 
@@ -51,11 +57,11 @@ agreed-pays (turned z) = λ h. z .pays
 agreed-pays (over z) = λ h. differ (ap isAnswered h)
 
 -- in ANSWERED the payer who is charged is the one that the history names for the seconds to come
-pub pays-now : (f : ℕ) (own : Number) → opening f own .number ≡ 0 → (es : List Event) →
+pub pays-now : (f : ℕ) (own : Number) → opening f own .number ≡ 0 → (es : List Event) → noneOpens (history (opening f own .call) es) ≡ true →
     run (opening f own .call) es .stand .phase ≡ Answered →
     run (opening f own .call) es .meters .payer ≡ payer (reversal (marks f plain (history (opening f own .call) es))) true
-pays-now f own e es h =
-    agreed-pays (reached f es (from-opening f own e)) h
+pays-now f own e es n h =
+    agreed-pays (reached f es (from-opening f own e) n) h
     ∙ ap (λ (w : Took). payer w true) (turn-is 0 (marks f plain (history (opening f own .call) es)))
 
 -- ---- One reversal at most
@@ -104,53 +110,76 @@ calm true b n ms = refl
 calm false true n ms = refl
 calm false false n ms = refl
 
-ended-keeps : {f : ℕ} {c : Call} {d : Mark} {o : Known} → Agrees f c d o → Ended c → (e : Event) →
+-- at a cleared call every answer that accepts no opening leaves the call as it stood, and shows nothing
+module _ (P : Outcome → Type 0) (c : Call) (e : Event) where
+  abbrev Told : Outcome → Type 0
+  Told a = Unopening e a → P a
+
+  abbrev Does : Row → Type 0
+  Does x = Told (performOf c (planOf x (termsOf (c .side .flags) (c .stand) (readOf e))) (readOf e))
+
+  -- the opening's row, accepted
+  not-opened : anOpening e ≡ true → Does Row.Opened
+  not-opened i h = differ (sym h ∙ ap (λ (b : Bool). true && b) i)
+
+ended-keeps : {f : ℕ} {c : Call} {d : Mark} {o : Known} → Agrees f c d o → Ended c → (e : Event) → Unopening e (stepOf c e) →
     Ended (stepOf c e .call) × Calm (mark f d (written c e (stepOf c e)))
-ended-keeps null h e = differ h
-ended-keeps setup h e = differ h
-ended-keeps asked-A h e = differ h
-ended-keeps asked-D h e = differ h
-ended-keeps (talks z) h e = differ h
-ended-keeps (asked-B z) h e = differ h
-ended-keeps {f} {c} {d} (turned {t = t} {k = k} {x = x} {y = y} z) h e = (
-  took-ended (keeps f {c = c} {d = d} e (turned z)) (known-stays k t x y (mark f d (written c e (stepOf c e)))),
+ended-keeps null h e n = differ h
+ended-keeps setup h e n = differ h
+ended-keeps asked-A h e n = differ h
+ended-keeps asked-D h e n = differ h
+ended-keeps (talks z) h e n = differ h
+ended-keeps (asked-B z) h e n = differ h
+ended-keeps {f} {c} {d} (turned {t = t} {k = k} {x = x} {y = y} z) h e n = (
+  took-ended (keeps f {c = c} {d = d} e (turned z) n) (known-stays k t x y (mark f d (written c e (stepOf c e)))),
   calm (counted (written c e (stepOf c e))) (accepted (written c e (stepOf c e)) && inEffect (written c e (stepOf c e))) (secondsIn e),
 )
-ended-keeps {f} {c} {d} (over z) h e =
-    refused-or-performed (λ (a : Outcome). Ended (a .call) × Calm (mark f d (written c e a))) c e (refl, λ ms. refl)
+ended-keeps {f} {c} {d} (over z) h e n =
+    refused-or-performed (Told Calmly c e) c e (λ i. (refl, λ ms. refl))
     (record {
-      one = (refl, λ ms. refl);
-      three = λ k. (refl, λ ms. refl);
-      fifteen = (refl, λ ms. refl);
-      sixteen = (refl, λ ms. refl);
-      seventeen = (refl, λ ms. refl);
-      eighteen = (refl, λ ms. refl);
+      one = λ i. (refl, λ ms. refl);
+      three = λ k i. (refl, λ ms. refl);
+      fifteen = λ i. (refl, λ ms. refl);
+      sixteen = λ i. (refl, λ ms. refl);
+      seventeen = λ i. (refl, λ ms. refl);
+      twenty = λ i. (refl, λ ms. refl);
     })
-    (refl, λ ms. refl)
+    (after-clearing (Does Calmly c e) e (not-opened Calmly c e) (λ i. (refl, λ ms. refl))) n
+  where
+    Calmly : Outcome → Type 0
+    Calmly a = Ended (a .call) × Calm (mark f d (written c e a))
 
-none-after : {f : ℕ} {c : Call} {d : Mark} {o : Known} (es : List Event) → Agrees f c d o → Ended c → reversals (marks f d (history c es)) ≡ 0
-none-after [] y h = refl
-none-after {f} {c} {d} (e ∷ es) y h =
-    let k = ended-keeps y h e in
-    k .1 (marks f (waits f d (written c e (stepOf c e))) (history (stepOf c e .call) es)) ∙ none-after es (keeps f e y) (k .0)
+none-after : {f : ℕ} {c : Call} {d : Mark} {o : Known} (es : List Event) → Agrees f c d o → noneOpens (history c es) ≡ true → Ended c →
+    reversals (marks f d (history c es)) ≡ 0
+none-after [] y n h = refl
+none-after {f} {c} {d} (e ∷ es) y n h =
+    let s = written c e (stepOf c e) in
+    let u = first-unopening s (history (stepOf c e .call) es) n in
+    let k = ended-keeps y h e u in
+    k .1 (marks f (waits f d s) (history (stepOf c e .call) es))
+    ∙ none-after es (keeps f e y u) (rest-unopening s (history (stepOf c e .call) es) n) (k .0)
 
 -- what a step shows, and at most one reversal behind it
 at-most-one : {f : ℕ} {c : Call} {d : Mark} (w : Took) (x y : ℕ) (m : Mark) (es : List Event) → Agrees f c d (note (known w x y) m) →
-    reversals (marks f d (history c es)) ≤ 1 → reversals (m ∷ marks f d (history c es)) ≤ 1
-at-most-one w x y plain es a h = h
-at-most-one w x y (second n) es a h = h
-at-most-one nothing x y (reversed k t) es a h = omega (arith, none-after es a (took-ended a refl))
-at-most-one (took k′ t′) x y (reversed k t) es a h = omega (arith, none-after es a (took-ended a refl))
+    noneOpens (history c es) ≡ true → reversals (marks f d (history c es)) ≤ 1 → reversals (m ∷ marks f d (history c es)) ≤ 1
+at-most-one w x y plain es a u h = h
+at-most-one w x y (second n) es a u h = h
+at-most-one nothing x y (reversed k t) es a u h = omega (arith, none-after es a u (took-ended a refl))
+at-most-one (took k′ t′) x y (reversed k t) es a u h = omega (arith, none-after es a u (took-ended a refl))
 
-turns-once : {f : ℕ} {c : Call} {d : Mark} {o : Known} (es : List Event) → Agrees f c d o → reversals (marks f d (history c es)) ≤ 1
-turns-once [] y = omega arith
-turns-once {f} {c} {d} {o} (e ∷ es) y =
-    at-most-one (o .turn) (o .before) (o .after) (mark f d (written c e (stepOf c e))) es (keeps f e y) (turns-once es (keeps f e y))
+turns-once : {f : ℕ} {c : Call} {d : Mark} {o : Known} (es : List Event) → Agrees f c d o → noneOpens (history c es) ≡ true →
+    reversals (marks f d (history c es)) ≤ 1
+turns-once [] y n = omega arith
+turns-once {f} {c} {d} {o} (e ∷ es) y n =
+    let s = written c e (stepOf c e) in
+    let u = first-unopening s (history (stepOf c e .call) es) n in
+    let r = rest-unopening s (history (stepOf c e .call) es) n in
+    at-most-one (o .turn) (o .before) (o .after) (mark f d s) es (keeps f e y u) r (turns-once es (keeps f e y u) r)
 
 -- a reversal takes effect once at most
 pub one-reversal : (f : ℕ) (own : Number) → opening f own .number ≡ 0 → (es : List Event) →
-    reversals (marks f plain (history (opening f own .call) es)) ≤ 1
-one-reversal f own e es = turns-once es (from-opening f own e)
+    noneOpens (history (opening f own .call) es) ≡ true → reversals (marks f plain (history (opening f own .call) es)) ≤ 1
+one-reversal f own e es n = turns-once es (from-opening f own e) n
 
 -- ---- A bill once made stays
 
@@ -222,31 +251,47 @@ isOver Setup = false
 isOver Answered = false
 isOver Cleared = true
 
--- a cleared call refuses every event, so nothing more is shown
-over-quiet : {f : ℕ} {c : Call} {d : Mark} {o : Known} (es : List Event) → Agrees f c d o → c .stand .phase ≡ Cleared → Quiet (marks f d (history c es))
-over-quiet [] y h = none
-over-quiet (e ∷ es) null h = differ (ap isOver h)
-over-quiet (e ∷ es) setup h = differ (ap isOver h)
-over-quiet (e ∷ es) asked-A h = differ (ap isOver h)
-over-quiet (e ∷ es) asked-D h = differ (ap isOver h)
-over-quiet (e ∷ es) (talks z) h = differ (ap isOver h)
-over-quiet (e ∷ es) (asked-B z) h = differ (ap isOver h)
-over-quiet (e ∷ es) (turned z) h = differ (ap isOver h)
-over-quiet {f} {c} {d} {o} (e ∷ es) (over z) h =
-    let q = one-more (over-quiet {c = c} {d = d} {o = o} es (over z) refl) in
-    refused-or-performed Shows-nothing c e q
-    (record { one = q; three = λ k. q; fifteen = q; sixteen = q; seventeen = q; eighteen = q }) q
+-- a cleared call refuses every event but an opening, so nothing more is shown
+over-quiet : {f : ℕ} {c : Call} {d : Mark} {o : Known} (es : List Event) → Agrees f c d o → noneOpens (history c es) ≡ true →
+    c .stand .phase ≡ Cleared → Quiet (marks f d (history c es))
+over-quiet [] y n h = none
+over-quiet (e ∷ es) null n h = differ (ap isOver h)
+over-quiet (e ∷ es) setup n h = differ (ap isOver h)
+over-quiet (e ∷ es) asked-A n h = differ (ap isOver h)
+over-quiet (e ∷ es) asked-D n h = differ (ap isOver h)
+over-quiet (e ∷ es) (talks z) n h = differ (ap isOver h)
+over-quiet (e ∷ es) (asked-B z) n h = differ (ap isOver h)
+over-quiet (e ∷ es) (turned z) n h = differ (ap isOver h)
+over-quiet {f} {c} {d} {o} (e ∷ es) (over z) n h =
+    let quiet : noneOpens (history c es) ≡ true → Quiet (plain ∷ marks f d (history c es)) =
+    λ u. one-more (over-quiet {c = c} {d = d} {o = o} es (over z) u refl) in
+    refused-or-performed (Told Shows-nothing c e) c e (λ i. quiet)
+    (record { one = λ i. quiet; three = λ k i. quiet; fifteen = λ i. quiet; sixteen = λ i. quiet; seventeen = λ i. quiet; twenty = λ i. quiet })
+    (after-clearing (Does Shows-nothing c e) e (not-opened Shows-nothing c e) (λ i. quiet))
+    (first-unopening (written c e (stepOf c e)) (history (stepOf c e .call) es) n)
+    (rest-unopening (written c e (stepOf c e)) (history (stepOf c e .call) es) n)
   where
     Shows-nothing : Outcome → Type 0
-    Shows-nothing a = Quiet (mark f d (written c e a) ∷ marks f (waits f d (written c e a)) (history (a .call) es))
+    Shows-nothing a =
+        noneOpens (history (a .call) es) ≡ true →
+        Quiet (mark f d (written c e a) ∷ marks f (waits f d (written c e a)) (history (a .call) es))
+
+-- of a history in two parts: none opens in it where none opens in either
+none-joins : (h more : List Step) → noneOpens (h ++ more) ≡ true → (noneOpens h ≡ true) × (noneOpens more ≡ true)
+none-joins [] more n = (refl, n)
+none-joins (s ∷ h) more n =
+    let k = none-joins h more (right (not (opens s)) _ n) in
+    (both (left (not (opens s)) _ n) (k .0), k .1)
 
 -- after the clearing the bill of a longer history is the one that was made
 pub cleared-bill : (f : ℕ) (own : Number) → opening f own .number ≡ 0 → (es more : List Event) →
-    run (opening f own .call) es .stand .phase ≡ Cleared →
+    noneOpens (history (opening f own .call) (es ++ more)) ≡ true → run (opening f own .call) es .stand .phase ≡ Cleared →
     bill f (history (opening f own .call) (es ++ more)) ≡ bill f (history (opening f own .call) es)
-cleared-bill f own e es more h =
+cleared-bill f own e es more n h =
     let c = opening f own .call in
-    let q = over-quiet more (reached f es (from-opening f own e)) h in
+    let u =
+    none-joins (history c es) (history (run c es) more) (subst (λ (l : List Step). noneOpens l ≡ true) (history-joins c es more) n) in
+    let q = over-quiet more (reached f es (from-opening f own e) (u .0)) (u .1) h in
     let ms : List Mark = marks f plain (history c es) in
     ap (bill f) (history-joins c es more) ∙ ap billBy (marks-join f plain (history c es) (history (run c es) more))
     ∙ ap (λ (w : Took). payments w false (ms ++ marks f (waiting f plain (history c es)) (history (run c es) more))) (quiet-reversal ms q)

@@ -9,7 +9,7 @@ use borrow.Author.Tests.{eqb-true}
 use Rattle.rows.specs.Find.{waitActiveOf, activeOf, waitActiveConfOf, setupWaitCalledOf, answeredWaitCalledOf, rowForOf}
 use Rattle.rows.specs.Promises.{isFacility, tellsRunning, asksReversal, isInvoke, toldRunning, sentRunning}
 use Rattle.rows.specs.Read.{readOf, cueOf}
-use Rattle.rows.specs.Step.{takenBy, takesOf, isUnopened, stepOf}
+use Rattle.rows.specs.Step.{takenBy, takesOf, stepOf}
 use Rattle.rows.specs.Valid.{idleOnly, placedOf, validOf, eventOk}
 use Rattle.rows.specs.declared.Call.{Call}
 use Rattle.rows.specs.declared.Component.{Component}
@@ -27,7 +27,7 @@ use Rattle.rows.specs.declared.RevState.the-variants.{Idle, WaitSetup, W
 use Rattle.rows.specs.declared.RevState.the-variants.{WaitCalled}
 use Rattle.rows.specs.declared.Role.{Role}
 use Rattle.rows.specs.declared.Row.{Row}
-use Rattle.rows.proofs.Answers.{row-decides, opened-then}
+use Rattle.rows.proofs.Answers.{row-decides, opened-then, isUnopened}
 use Rattle.rows.proofs.Placed.{placed}
 use Rattle.rows.proofs.Progress.{valid-place, with-these, a-facility}
 use Rattle.rows.proofs.Truth.{both, differ, either}

@@ -9,11 +9,11 @@ use native.Mathlib.Omega.{arith}
 use lib.Dec.{eqb, leb}
 use borrow.Author.Tests.{eqb-true, eq-eqb, le-leb, leb-true}
 use Rattle.meters.proofs.Laws
-use Rattle.meters.proofs.Laws.{Gave, gave, gave-within, moved, received}
+use Rattle.meters.proofs.Laws.{Gave, gave, gave-within, moved, received, begins, begun}
 use Rattle.meters.specs.Meters.{limit, newOf, sumOf, withinOf, paidByOf, giveOf, entireOf, receivedOf, changeOf}
 use Rattle.meters.specs.declared.Change.{Change}
-use Rattle.meters.specs.declared.Change.the-variants.{Keep, CallerPays, CalledPays, FarPays, NobodyPays, EntireToCalled, EntireToFar}
-use Rattle.meters.specs.declared.Change.the-variants.{TimePasses, DurationReceived}
+use Rattle.meters.specs.declared.Change.the-variants.{Keep, Begin, CallerPays, CalledPays, FarPays, NobodyPays, EntireToCalled}
+use Rattle.meters.specs.declared.Change.the-variants.{EntireToFar, TimePasses, DurationReceived}
 use Rattle.meters.specs.declared.Metered.the-variants.{Done}
 use Rattle.meters.specs.declared.Meters.{Meters}
 use Rattle.meters.specs.declared.Payer.{Payer}
@@ -211,6 +211,7 @@ isDestination Destination = true
 
 abbrev turns : Role → Age → Age → Change → Bool
 turns r t u Keep = sameAge t u
+turns r t u Begin = isBefore u
 turns r t u CallerPays = isOriginating r && isTalking u
 turns r t u CalledPays = isTalking u
 turns r t u FarPays = isTalking u
@@ -316,12 +317,19 @@ ends r n before i l = differ i
 ends r n talking i l = differ i
 ends r n over i l = record { metered = l .tally; within = l .within; paying = ap payerNobody (l .payer) }
 
+-- new meters are those of a call before its answer, in either role
+anew : (r : Role) (u : Age) (n : Meters) → isBefore u ≡ true → newOf ≡ n → Sound r u n
+anew r before n i e = subst (λ (k : Meters). Sound r before k) e (record { metered = refl; within = refl; paying = refl })
+anew r talking n i e = differ i
+anew r over n i e = differ i
+
 keeps : (r : Role) (t u : Age) {m : Meters} → sameAge t u ≡ true → Sound r t m → Sound r u m
 keeps r t u {m} i z = subst (λ (v : Age). Sound r v m) (sym (same-age t u i)) z
 
 changes : (r : Role) (t u : Age) (x : Change) (m n : Meters) (s : ℕ) → turns r t u x ≡ true → Sound r t m → changeOf x m s ≡ Done n →
     Sound r u n
 changes r t u Keep m n s i z h = let e : m ≡ n = cc in subst (λ (k : Meters). Sound r u k) e (keeps r t u i z)
+changes r t u Begin m n s i z h = anew r u n i (begun Begin m n s refl h)
 changes r t u CallerPays m n s i z h =
     talks r Caller n u (right (isOriginating r) _ i) (caller-there r (left (isOriginating r) _ i)) (pays r t Caller m n z h)
 changes r t u CalledPays m n s i z h = talks r Called n u i (there r Called refl) (pays r t Called m n z h)
@@ -337,47 +345,17 @@ changes r t u DurationReceived m n s i z h =
 
 -- ---- Every row keeps a call a call
 
-abbrev isKeep : Change → Bool
-isKeep Keep = true
-isKeep CallerPays = false
-isKeep CalledPays = false
-isKeep FarPays = false
-isKeep NobodyPays = false
-isKeep EntireToCalled = false
-isKeep EntireToFar = false
-isKeep TimePasses = false
-isKeep DurationReceived = false
-
--- an opening may change the role, so what follows has to be a call in either
+-- an opening may change the role, so what follows has to be a call in either: it begins anew
 abbrev fits : Role → Stand → Stand → Change → Register → Bool
 fits r now to x AsHeld = placedOf r (to .phase) (to .rev) && turns r (ageOf (now .phase)) (ageOf (to .phase)) x
 fits r now to x FromOpening =
     (placedOf Originating (to .phase) (to .rev) && placedOf Destination (to .phase) (to .rev))
-    && (isBefore (ageOf (now .phase)) && (isBefore (ageOf (to .phase)) && isKeep x))
+    && (isBefore (ageOf (to .phase)) && begins x)
 fits r now to x CalledNumber = placedOf r (to .phase) (to .rev) && turns r (ageOf (now .phase)) (ageOf (to .phase)) x
 fits r now to x CallingNumber = placedOf r (to .phase) (to .rev) && turns r (ageOf (now .phase)) (ageOf (to .phase)) x
 
 abbrev fitting : Test
 fitting r now k p = implies (eqb (p .number) 0) (fits r now (standOf (p .next) now) (p .change) (p .register))
-
--- before the answer the meters say nothing of the role
-any-role : (r q : Role) (u : Age) {n : Meters} → isBefore u ≡ true → Sound r u n → Sound q u n
-any-role r q before i z = record { metered = z .metered; within = z .within; paying = z .paying }
-any-role r q talking i z = differ i
-any-role r q over i z = differ i
-
-kept-before : (r : Role) (t u : Age) (x : Change) → isBefore t ≡ true → isBefore u ≡ true → isKeep x ≡ true → turns r t u x ≡ true
-kept-before r before u Keep i j k = j
-kept-before r talking u Keep i j k = differ i
-kept-before r over u Keep i j k = differ i
-kept-before r t u CallerPays i j k = differ k
-kept-before r t u CalledPays i j k = differ k
-kept-before r t u FarPays i j k = differ k
-kept-before r t u NobodyPays i j k = differ k
-kept-before r t u EntireToCalled i j k = differ k
-kept-before r t u EntireToFar i j k = differ k
-kept-before r t u TimePasses i j k = differ k
-kept-before r t u DurationReceived i j k = differ k
 
 in-either : (p : Phase) (s : RevState) (b : Bool) → (placedOf Originating p s && placedOf Destination p s) ≡ true →
     placedOf (roleBy b) p s ≡ true
@@ -437,17 +415,13 @@ module _ (s : Side) (now to : Stand) (m n : Meters) (x : Change) (e : Event) (ok
   follows AsHeld f = stays AsHeld refl f
   follows FromOpening f =
       let k = right (placedOf Originating (to .phase) (to .rev) && placedOf Destination (to .phase) (to .rev)) _ f in
-      let l = right (isBefore (ageOf (now .phase))) _ k in
       record {
         placed =
             in-either (to .phase) (to .rev) (eqb (readOf e .item) 1)
             (left (placedOf Originating (to .phase) (to .rev) && placedOf Destination (to .phase) (to .rev)) _ f);
         sound =
-            any-role (s .role) (roleBy (eqb (readOf e .item) 1)) (ageOf (to .phase)) (left (isBefore (ageOf (to .phase))) _ l)
-            (changes (s .role) (ageOf (now .phase)) (ageOf (to .phase)) x m n (readOf e .seconds)
-            (kept-before (s .role) (ageOf (now .phase)) (ageOf (to .phase)) x (left (isBefore (ageOf (now .phase))) _ k)
-            (left (isBefore (ageOf (to .phase))) _ l) (right (isBefore (ageOf (to .phase))) _ l))
-            (g .sound) h);
+            anew (roleBy (eqb (readOf e .item) 1)) (ageOf (to .phase)) n (left (isBefore (ageOf (to .phase))) _ k)
+            (begun x m n (readOf e .seconds) (right (isBefore (ageOf (to .phase))) _ k) h);
         held = registers FromOpening s (carries e ok) (g .held);
       }
   follows CalledNumber f = stays CalledNumber refl f

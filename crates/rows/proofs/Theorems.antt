@@ -1,8 +1,8 @@
 -- THE THEOREMS about the rows, each with its sentence, to be read alone. What they speak of is defined in specs/: Step.antt (`stepOf`,
 -- the answer to an event), Valid.antt (`validOf`, what is a call; `eventOk`, fields in range), History.antt (`run`, `history`: any list
 -- of events, refused ones among them), Bill.antt (demand 3), Reasons.antt (why there was no row, the first bad field) and Promises.antt
--- (the rest); `Shows` and `Told`, the records that say what the meters show of a bill, stand in Whole.antt and Opened.antt. The files cited
--- prove them.
+-- (the rest); `Shows` and `Told`, which say what the meters show of a bill, stand in Whole.antt and Opened.antt, and `Since`, the latest call
+-- of a history, in Opened.antt. The files cited prove them.
 -- docs/STATEMENTS.md names a wrong program that each rules out.
 -- Assumes nothing.
 use mathlib.Core.Path.{_≡_, refl}
@@ -13,17 +13,18 @@ use Prim.Native.Nat.{ℕ, suc, _+_, _≤_}
 use lib.Dec.{eqb, leb}
 use Rattle.meters.specs.Meters.{newOf, sumOf}
 use Rattle.meters.specs.declared.Payer.the-variants.{Nobody}
-use Rattle.rows.specs.Bill.{bitAt, isAnswered, isRev, answered, Case, plain, marks, took, reversal, payer, bill, line}
+use Rattle.rows.specs.Bill.{bitAt, isAnswered, isRev, answered, Case, plain, marks, took, reversal, payer, bill, originating}
+use Rattle.rows.specs.Bill.{Step, pick, opens, noneOpens, line}
 use Rattle.rows.specs.History.{run, written, history, opening}
 use Rattle.rows.specs.Perform.{refusedAt}
-use Rattle.rows.specs.Promises.{NothingDone, noneIs, unpaid, Answering, runs, inCall, Clears, chargedBy, placeIn}
+use Rattle.rows.specs.Promises.{NothingDone, AsFresh, noneIs, unpaid, Answering, runs, inCall, Clears, chargedBy, placeIn}
 use Rattle.rows.specs.Promises.{isFacility, tellsRunning, asksReversal, isInvoke, errorIs, toldRunning, sentRunning}
 use Rattle.rows.specs.Promises.{saysNoRow, requestHasRow, invokeHasRow}
 use Rattle.rows.specs.Promises.{openingThere, secondsThere, noDuration, lastedIn, withTotal, totalFits}
 use Rattle.rows.specs.Promises.{reversals, Extends, OtherDigits, Redialled, AllRedialled, Renumbered, SameAnswer, numbers}
 use Rattle.rows.specs.Promises.{takesEffect, InEffect, PassedOn, Keeps, OnlyOwn, HoldsOrClears}
 use Rattle.rows.specs.Reasons.{Timely, Looked, Never, OnlyElsewhere, OtherState, reason, SameEvent, FirstOut}
-use Rattle.rows.specs.Step.{unopenedCall, totalOf, isOpening, stepOf}
+use Rattle.rows.specs.Step.{unopenedCall, totalOf, isOpening, stepOf, freeOf}
 use Rattle.rows.specs.Telephone.{absent, sameNumber}
 use Rattle.rows.specs.Valid.{inRange, numberThere, validOf, rangesOf, eventOk, badFieldOf}
 use Rattle.rows.specs.declared.Call.{Call}
@@ -35,11 +36,12 @@ use Rattle.rows.specs.declared.Number.{Number}
 use Rattle.rows.specs.declared.Phase.the-variants.{Unopened, Null, Answered, Cleared}
 use Rattle.rows.specs.declared.RevState.the-variants.{Active}
 use Rattle.rows.specs.declared.Role.the-variants.{Destination}
+use Rattle.rows.proofs.Anew
 use Rattle.rows.proofs.Clearing
 use Rattle.rows.proofs.Destination
 use Rattle.rows.proofs.Digits
 use Rattle.rows.proofs.Opened
-use Rattle.rows.proofs.Opened.{Told, early, untimelyOrThree}
+use Rattle.rows.proofs.Opened.{Since, Told, early, untimelyOrThree}
 use Rattle.rows.proofs.Passed
 use Rattle.rows.proofs.Payers
 use Rattle.rows.proofs.Phases
@@ -66,14 +68,16 @@ refusal-changes-nothing = Refusals.refusal-changes-nothing
 pub refusal-is : (c : Call) (e : Event) → (stepOf c e .number ≡ 0 → ⊥) → stepOf c e ≡ refusedAt (stepOf c e .number) (stepOf c e .field) c
 refusal-is = Refusals.refusal-is
 
--- At a call, 17 is given for an event before the opening and 18 for an opening after it, whatever the fields, and for nothing else ..
+-- At a call, 17 is given for any event but an opening where the call was never opened, and 20 for an opening where it was opened and has not
+-- cleared, whatever the fields, and for nothing else ..
 pub seventeen-exactly : (c : Call) (e : Event) →
     (stepOf c e .number ≡ 17) ↔ ((validOf c ≡ true) × (c .stand .phase ≡ Unopened) × (isOpening e ≡ false))
 seventeen-exactly = Reasons.seventeen-exactly
 
-pub eighteen-exactly : (c : Call) (e : Event) →
-    (stepOf c e .number ≡ 18) ↔ ((validOf c ≡ true) × (c .stand .phase ≡ Unopened → ⊥) × (isOpening e ≡ true))
-eighteen-exactly = Reasons.eighteen-exactly
+pub twenty-exactly : (c : Call) (e : Event) →
+    (stepOf c e .number ≡ 20)
+    ↔ ((validOf c ≡ true) × (c .stand .phase ≡ Unopened → ⊥) × (c .stand .phase ≡ Cleared → ⊥) × (isOpening e ≡ true))
+twenty-exactly = Reasons.twenty-exactly
 
 -- .. and then 3 for a field out of range, and for nothing else: the ordinal beside it ..
 pub three-exactly : (c : Call) (e : Event) → (stepOf c e .number ≡ 3) ↔ ((validOf c ≡ true) × Timely c e × (eventOk e ≡ false))
@@ -125,6 +129,18 @@ paid-stays = Payers.paid-stays
 pub never-ten : (es : List Event) → noneIs 10 (history unopenedCall es) ≡ true
 never-ten es = Payers.never-ten unopenedCall es refl
 
+-- ---- An opening takes a free call (02 #107). `freeOf`: a call, never opened or cleared
+
+-- Free is exactly where an opening with its fields in range is accepted.
+pub free-exactly : (c : Call) (r f : ℕ) (n : Number) → eventOk (Opening r f n) ≡ true →
+    (freeOf c ≡ true) ↔ (stepOf c (Opening r f n) .number ≡ 0)
+free-exactly = Anew.free-exactly
+
+-- There it starts anew: the answer is that of a call that was never opened, and so, where it is accepted, is the call, its role, flags,
+-- numbers, state, meters and total: whatever the cleared call held is gone. With a bad field it is 3, and the cleared call stays.
+pub opening-starts-anew : (c : Call) (e : Event) → freeOf c ≡ true → isOpening e ≡ true → AsFresh (stepOf c e) (stepOf unopenedCall e)
+opening-starts-anew = Anew.opening-starts-anew
+
 -- ---- Phases go forward
 
 -- ANSWERED is entered by an accepted answer to a call in SETUP (`answersAt` says by which events, for each role), and by nothing else.
@@ -146,7 +162,7 @@ pub active-stays : (c : Call) (e : Event) → runs (c .stand) ≡ true → isAns
     isRev Active (stepOf c e .call .stand .rev) ≡ true
 active-stays = Phases.active-stays
 
--- NONE, NULL, SETUP, ANSWERED, CLEARED: no event but an opening leads back.
+-- NONE, NULL, SETUP, ANSWERED, CLEARED: no event but an opening leads back. So from the latest accepted opening on phases go forward.
 pub never-back : (c : Call) (e : Event) → isOpening e ≡ false → placeIn (c .stand .phase) ≤ placeIn (stepOf c e .call .stand .phase)
 never-back = Phases.never-falls
 
@@ -215,8 +231,8 @@ pub invoke-no-row-exactly : (c : Call) (m : Message) → validOf c ≡ true → 
     saysNoRow (stepOf c (Received m) .number) ≡ not (invokeHasRow (c .side .role) (c .stand .phase) (c .stand .rev) (m .kind) (m .component))
 invoke-no-row-exactly = Requests.invoke-no-row-exactly
 
--- ---- Why there was no row (02 #106). `Looked`: the call is one, it was opened exactly where the event is no opening, and the fields are in
--- range
+-- ---- Why there was no row (02 #106). `Looked`: the call is one, the event comes in its time (`Timely`: an opening where the call was never
+-- opened or has cleared, any other event where it was opened), and the fields are in range
 
 -- 1 is given exactly where the role has no row for the event in any phase and REV state ..
 pub one-exactly : (c : Call) (e : Event) → (stepOf c e .number ≡ 1) ↔ (Looked c e × Never (c .side .role) e)
@@ -231,18 +247,19 @@ pub sixteen-exactly : (c : Call) (e : Event) →
     (stepOf c e .number ≡ 16) ↔ (Looked c e × OtherState (c .side .role) (c .stand .phase) (c .stand .rev) e)
 sixteen-exactly = Reasons.sixteen-exactly
 
--- Of events in range, at calls: which of 1, 15, 16, 17 and 18 is given, or none of them (`reason`), depends on role, phase, REV state and
+-- Of events in range, at calls: which of 1, 15, 16, 17 and 20 is given, or none of them (`reason`), depends on role, phase, REV state and
 -- what the event is (`SameEvent`), and on nothing else: no flag, part, cause, error number, telephone number, seconds, meters or what is pending.
 pub same-reason : (c d : Call) (e f : Event) → c .side .role ≡ d .side .role → c .stand .phase ≡ d .stand .phase → c .stand .rev ≡ d .stand .rev →
     validOf c ≡ true → validOf d ≡ true → eventOk e ≡ true → eventOk f ≡ true → SameEvent e f →
     reason (stepOf c e .number) ≡ reason (stepOf d f .number)
 same-reason = Reasons.same-reason
 
--- ---- Demand 3: who pays each answered second of an originating call
+-- ---- Demand 3: who pays each answered second of an originating call, from its latest accepted opening (02 #107). `noneOpens`: no step of
+-- the history is an accepted opening, so the opening that it began with is still the latest
 
--- From an opening, after any events: each meter is what its payer owes on the bill of the history, the bill has one payment for each
+-- From an opening, after any events since: each meter is what its payer owes on the bill of the history, the bill has one payment for each
 -- accepted time event after answer and before clearing, and the meters add up to the answered seconds.
-pub billed : (f : ℕ) (own : Number) → opening f own .number ≡ 0 → (es : List Event) →
+pub billed : (f : ℕ) (own : Number) → opening f own .number ≡ 0 → (es : List Event) → noneOpens (history (opening f own .call) es) ≡ true →
     Shows (run (opening f own .call) es) f (history (opening f own .call) es)
 billed = Whole.billed
 
@@ -250,27 +267,35 @@ billed = Whole.billed
 pub opens-in-range : (f : ℕ) (own : Number) → eventOk (Opening 0 f own) ≡ true → opening f own .number ≡ 0
 opens-in-range = Whole.opens-in-range
 
--- The same from before the opening; what comes before it is refused with 17 or 3.
+-- The same of every history from before any opening, calls that were opened again among them: the meters show the bill of the steps after the
+-- latest accepted opening (`line`), whatever the calls before it left; where none was accepted nothing has happened ..
 pub line-billed : (es : List Event) → Told (run unopenedCall es) (line (history unopenedCall es))
 line-billed = Opened.line-billed
 
+-- .. and what comes before the first is refused with 17 or 3.
 pub early-refused : (es : List Event) → untimelyOrThree (early (history unopenedCall es)) ≡ true
 early-refused = Opened.early-refused
 
--- Who pays now: in ANSWERED the payer who is charged is the one that the history names for the seconds to come.
-pub pays-now : (f : ℕ) (own : Number) → opening f own .number ≡ 0 → (es : List Event) →
+-- So what is said here of an opening and the events since holds of the latest call of any history: the call is the one that this opening
+-- made of a call that was never opened, after the events since (`Since`), and the bill's steps are theirs.
+pub latest-call : (c : Call) (es : List Event) (f : ℕ) (h : List Step) → line (history c es) ≡ originating f h → Since (run c es) f h
+latest-call = Opened.latest-call
+
+-- Who pays now: in ANSWERED the payer who is charged is the one that the history since the latest opening names for the seconds to come.
+pub pays-now : (f : ℕ) (own : Number) → opening f own .number ≡ 0 → (es : List Event) → noneOpens (history (opening f own .call) es) ≡ true →
     run (opening f own .call) es .stand .phase ≡ Answered →
     run (opening f own .call) es .meters .payer ≡ payer (reversal (marks f plain (history (opening f own .call) es))) true
 pays-now = Reversal.pays-now
 
--- Somebody pays: no such history reaches ANSWERED with nobody as payer, so 10 is for calls that a host hands in.
+-- Somebody pays: no history from an opening, whatever is opened after it, reaches ANSWERED with nobody as payer, so 10 is for calls that a
+-- host hands in.
 pub somebody-pays : (f : ℕ) (own : Number) → opening f own .number ≡ 0 → (es : List Event) →
     run (opening f own .call) es .stand .phase ≡ Answered → run (opening f own .call) es .meters .payer ≡ Nobody → ⊥
-somebody-pays = Whole.somebody-pays
+somebody-pays = Payers.somebody-pays
 
--- A reversal takes effect once at most.
+-- A reversal takes effect once at most, from the latest opening on.
 pub one-reversal : (f : ℕ) (own : Number) → opening f own .number ≡ 0 → (es : List Event) →
-    reversals (marks f plain (history (opening f own .call) es)) ≤ 1
+    noneOpens (history (opening f own .call) es) ≡ true → reversals (marks f plain (history (opening f own .call) es)) ≤ 1
 one-reversal = Reversal.one-reversal
 
 -- A bill once made stays: after a reversal the bill of a longer history has the payments that were made, and then its own ..
@@ -279,31 +304,32 @@ pub reversed-bill : (f : ℕ) (own : Number) (es more : List Event) (k : Case) (
     Extends (bill f (history (opening f own .call) es)) (bill f (history (opening f own .call) (es ++ more)))
 reversed-bill = Reversal.reversed-bill
 
--- .. and after the clearing it is the one that was made.
+-- .. and after the clearing, until another opening is accepted, it is the one that was made.
 pub cleared-bill : (f : ℕ) (own : Number) → opening f own .number ≡ 0 → (es more : List Event) →
-    run (opening f own .call) es .stand .phase ≡ Cleared →
+    noneOpens (history (opening f own .call) (es ++ more)) ≡ true → run (opening f own .call) es .stand .phase ≡ Cleared →
     bill f (history (opening f own .call) (es ++ more)) ≡ bill f (history (opening f own .call) es)
 cleared-bill = Reversal.cleared-bill
 
 -- ---- The destination's seconds
 
--- From its opening, after any events: called and far together are the answered seconds, or, from the last Duration used on, that Duration
--- and the answered seconds since, as the history alone says.
+-- From its latest opening, after any events since: called and far together are the answered seconds, or, from the last Duration used on, that
+-- Duration and the answered seconds since, as the history alone says.
 pub destination-seconds : (f : ℕ) (own : Number) → openingThere f own .number ≡ 0 → (es : List Event) →
+    noneOpens (history (openingThere f own .call) es) ≡ true →
     run (openingThere f own .call) es .meters .called + run (openingThere f own .call) es .meters .far
     ≡ secondsThere f (history (openingThere f own .call) es)
 destination-seconds = Destination.destination-seconds
 
 -- As long as no Duration was used they add up to the answered seconds.
 pub destination-answered : (f : ℕ) (own : Number) → openingThere f own .number ≡ 0 → (es : List Event) →
-    noDuration f (history (openingThere f own .call) es) ≡ true →
+    noneOpens (history (openingThere f own .call) es) ≡ true → noDuration f (history (openingThere f own .call) es) ≡ true →
     run (openingThere f own .call) es .meters .called + run (openingThere f own .call) es .meters .far
     ≡ answered (history (openingThere f own .call) es)
 destination-answered = Destination.destination-answered
 
 -- The caller's meter stays 0 there, and an opening in range is accepted.
 pub destination-caller : (f : ℕ) (own : Number) → openingThere f own .number ≡ 0 → (es : List Event) →
-    run (openingThere f own .call) es .meters .caller ≡ 0
+    noneOpens (history (openingThere f own .call) es) ≡ true → run (openingThere f own .call) es .meters .caller ≡ 0
 destination-caller = Destination.destination-caller
 
 pub opens-there-in-range : (f : ℕ) (own : Number) → eventOk (Opening 1 f own) ≡ true → openingThere f own .number ≡ 0
@@ -324,27 +350,29 @@ charged-by-result = Clearing.charged-by-result
 
 -- ---- The answered total (02 #104). The bill looks at no total; the total is what the bill counts
 
--- Every event keeps it true: a time event that is accepted in ANSWERED adds its seconds, and nothing else changes it, no Duration, no move
--- of case C, no clearing and no refusal ..
-pub total-counts : (c : Call) (e : Event) → totalOf (stepOf c e .call) ≡ totalOf c + lastedIn (written c e (stepOf c e))
+-- Every event keeps it true: an accepted opening sets it to 0, a time event that is accepted in ANSWERED adds its seconds, and nothing else
+-- changes it, no Duration, no move of case C, no clearing and no refusal ..
+pub total-counts : (c : Call) (e : Event) →
+    totalOf (stepOf c e .call) ≡ pick (opens (written c e (stepOf c e))) 0 (totalOf c + lastedIn (written c e (stepOf c e)))
 total-counts = Totals.total-counts
 
--- .. so from any call, after any events, it has grown by the answered seconds of the history, as the bill defines them ..
-pub total-after : (c : Call) (es : List Event) → totalOf (run c es) ≡ totalOf c + answered (history c es)
+-- .. so from any call, after any events without an accepted opening, it has grown by the answered seconds of the history, as the bill
+-- defines them ..
+pub total-after : (c : Call) (es : List Event) → noneOpens (history c es) ≡ true → totalOf (run c es) ≡ totalOf c + answered (history c es)
 total-after = Totals.total-after
 
--- .. and for every originating history from an opening it is just these seconds ..
-pub total-answered : (f : ℕ) (own : Number) → (es : List Event) →
+-- .. and for every originating history from its latest opening it is just these seconds ..
+pub total-answered : (f : ℕ) (own : Number) → (es : List Event) → noneOpens (history (opening f own .call) es) ≡ true →
     totalOf (run (opening f own .call) es) ≡ answered (history (opening f own .call) es)
 total-answered = Totals.total-answered
 
 -- .. and the three meters' sum ..
 pub total-is-sum : (f : ℕ) (own : Number) → opening f own .number ≡ 0 → (es : List Event) →
-    totalOf (run (opening f own .call) es) ≡ sumOf (run (opening f own .call) es .meters)
+    noneOpens (history (opening f own .call) es) ≡ true → totalOf (run (opening f own .call) es) ≡ sumOf (run (opening f own .call) es .meters)
 total-is-sum = Totals.total-is-sum
 
--- .. and for every destination history from an opening its own answered seconds, whatever Duration arrived.
-pub total-there : (f : ℕ) (own : Number) → (es : List Event) →
+-- .. and for every destination history from its latest opening its own answered seconds, whatever Duration arrived.
+pub total-there : (f : ℕ) (own : Number) → (es : List Event) → noneOpens (history (openingThere f own .call) es) ≡ true →
     totalOf (run (openingThere f own .call) es) ≡ answered (history (openingThere f own .call) es)
 total-there = Totals.total-there
 

@@ -1,5 +1,6 @@
--- THE ANSWERED TOTAL (02 #104): it grows with the accepted time events of an answered call and with nothing else, so after any history it
--- is the answered seconds that the bill counts; and which totals are no call's.
+-- THE ANSWERED TOTAL (02 #104): it grows with the accepted time events of an answered call and with nothing else, and an accepted opening
+-- sets it to 0, so after any history it is the answered seconds that the bill counts from the latest opening; and which totals are no
+-- call's.
 -- Of the meters it uses what their crate promises, Rattle.meters.proofs.Laws; of the rows, that time is counted in ANSWERED, by one test.
 -- Assumes nothing.
 use mathlib.Core.Path.{_≡_, refl, sym, _∙_, ap}
@@ -8,15 +9,15 @@ use mathlib.Core.List.{List, [], _∷_}
 use Prim.Native.Nat.{ℕ, _+_}
 use native.Mathlib.Omega.{arith}
 use lib.Dec.{eqb, leb}
-use Rattle.meters.proofs.Laws.{timed, onlyIf, total-grows}
+use Rattle.meters.proofs.Laws.{timed, begins, onlyIf, total-grows}
 use Rattle.meters.specs.Meters.{limit, sumOf, withinOf}
 use Rattle.meters.specs.declared.Meters.{Meters}
-use Rattle.rows.specs.Bill.{pick, Step, counted, isTime, secondsIn, isAnswered, times, sum, answered}
+use Rattle.rows.specs.Bill.{pick, Step, counted, isTime, secondsIn, isAnswered, times, sum, answered, anOpening, opens, noneOpens}
 use Rattle.rows.specs.History.{run, written, history, opening}
 use Rattle.rows.specs.Promises.{lastedIn, retotalled, withTotal, totalFits, openingThere}
 use Rattle.rows.specs.Read.{readOf}
-use Rattle.rows.specs.Step.{unopenedCall, totalOf, stepOf}
-use Rattle.rows.specs.Valid.{placedOf, unmetered, tallied, meteredOf, payingOf, numbersHeld, validOf}
+use Rattle.rows.specs.Step.{unopenedCall, totalOf, ifInRange, stepOf}
+use Rattle.rows.specs.Valid.{placedOf, unmetered, tallied, meteredOf, payingOf, numbersHeld, validOf, eventOk}
 use Rattle.rows.specs.declared.Call.{Call}
 use Rattle.rows.specs.declared.Event.{Event}
 use Rattle.rows.specs.declared.Event.the-variants.{Opening, Ask, Received, FromAccess, Expiry, Time}
@@ -30,12 +31,14 @@ use Rattle.rows.specs.declared.Role.{Role}
 use Rattle.rows.specs.declared.Role.the-variants.{Originating, Destination}
 use Rattle.rows.proofs.Answers.{planFor}
 use Rattle.rows.proofs.Found.{implies, so, Test, holds, stepped}
+use Rattle.rows.proofs.Phases
+use Rattle.rows.proofs.Phases.{isOpens}
 use Rattle.rows.proofs.Stays
 use Rattle.rows.proofs.Truth.{alike, are-alike, both, left, right}
 use Rattle.rows.proofs.Whole
-use Rattle.rows.proofs.Whole.{by-kind}
+use Rattle.rows.proofs.Whole.{by-kind, first-unopening, rest-unopening}
 
--- ---- Every row: time is counted where time passes in ANSWERED, and nowhere else
+-- ---- Every row: time is counted where time passes in ANSWERED, and nowhere else; an opening begins anew, and nothing else does
 
 abbrev isPassing : Kind → Bool
 isPassing Opens = false
@@ -49,7 +52,9 @@ isPassing Expires = false
 isPassing Passes = true
 
 abbrev counting : Test
-counting r now k p = implies (eqb (p .number) 0) (alike (timed (p .change)) (isPassing k && isAnswered (now .phase)))
+counting r now k p =
+    implies (eqb (p .number) 0)
+    (alike (timed (p .change)) (isPassing k && isAnswered (now .phase)) && alike (begins (p .change)) (isOpens k))
 
 -- the reading's kind says whether the event is a time
 passing : (e : Event) → isPassing (readOf e .kind) ≡ isTime e
@@ -60,80 +65,90 @@ passing (FromAccess a n) = refl
 passing Expiry = refl
 passing (Time s) = refl
 
-seconds-count : (e : Event) (b : Bool) → onlyIf (isTime e && b) (readOf e .seconds) ≡ pick (isTime e && b) (secondsIn e) 0
-seconds-count (Opening r f n) b = refl
-seconds-count (Ask q n) b = refl
-seconds-count (Received m) b = refl
-seconds-count (FromAccess a n) b = refl
-seconds-count Expiry b = refl
-seconds-count (Time s) true = refl
-seconds-count (Time s) false = refl
+-- the total before, and the seconds that pass
+seconds-count : (e : Event) (b : Bool) (t : ℕ) →
+    onlyIf (not (anOpening e)) t + onlyIf (isTime e && b) (readOf e .seconds)
+    ≡ pick (anOpening e) 0 (t + pick (isTime e && b) (secondsIn e) 0)
+seconds-count (Opening r f n) b t = refl
+seconds-count (Ask q n) b t = refl
+seconds-count (Received m) b t = refl
+seconds-count (FromAccess a n) b t = refl
+seconds-count Expiry b t = refl
+seconds-count (Time s) true t = refl
+seconds-count (Time s) false t = refl
 
 -- ---- THE LAW, of one step and of any history
 
-pub total-counts : (c : Call) (e : Event) → totalOf (stepOf c e .call) ≡ totalOf c + lastedIn (written c e (stepOf c e))
+pub total-counts : (c : Call) (e : Event) →
+    totalOf (stepOf c e .call) ≡ pick (opens (written c e (stepOf c e))) 0 (totalOf c + lastedIn (written c e (stepOf c e)))
 total-counts c e =
-    stepped (λ (o : Outcome). totalOf (o .call) ≡ totalOf c + lastedIn (written c e o)) c e
+    stepped (λ (o : Outcome). totalOf (o .call) ≡ pick (opens (written c e o)) 0 (totalOf c + lastedIn (written c e o))) c e
     (λ v. omega arith)
     (λ n k v z q. refused n z)
     (λ n d. grown n (total-grows (planFor c e .change) (c .meters) n (readOf e .seconds) (d .meters)) (d .row))
   where
-    refused : (n : ℕ) → eqb n 0 ≡ false → totalOf c ≡ totalOf c + pick (eqb n 0 && (isTime e && isAnswered (c .stand .phase))) (secondsIn e) 0
-    refused n z =
-        let k : pick (eqb n 0 && (isTime e && isAnswered (c .stand .phase))) (secondsIn e) 0 ≡ 0 =
-        ap (λ (b : Bool). pick (b && (isTime e && isAnswered (c .stand .phase))) (secondsIn e) 0) z in
-        omega (arith, k)
+    refused : (n : ℕ) → eqb n 0 ≡ false →
+        totalOf c ≡ pick (eqb n 0 && anOpening e) 0 (totalOf c + pick (eqb n 0 && (isTime e && isAnswered (c .stand .phase))) (secondsIn e) 0)
+    refused n z = rw z (omega arith)
 
-    grown : (n : Meters) → n .total ≡ c .meters .total + onlyIf (timed (planFor c e .change)) (readOf e .seconds) →
-        eqb (planFor c e .number) 0 ≡ true → n .total ≡ totalOf c + pick (isTime e && isAnswered (c .stand .phase)) (secondsIn e) 0
+    grown : (n : Meters) →
+        n .total ≡ onlyIf (not (begins (planFor c e .change))) (c .meters .total) + onlyIf (timed (planFor c e .change)) (readOf e .seconds) →
+        eqb (planFor c e .number) 0 ≡ true →
+        n .total ≡ pick (anOpening e) 0 (totalOf c + pick (isTime e && isAnswered (c .stand .phase)) (secondsIn e) 0)
     grown n g r =
-        let t : timed (planFor c e .change) ≡ (isPassing (readOf e .kind) && isAnswered (c .stand .phase)) =
-        are-alike _ _ (so _ _ (holds counting (λ e′ t a b. refl) c e) r) in
+        let w = so _ _ (holds counting (λ e′ t a b. refl) c e) r in
+        let t : timed (planFor c e .change) ≡ (isPassing (readOf e .kind) && isAnswered (c .stand .phase)) = are-alike _ _ (left _ _ w) in
         let k : timed (planFor c e .change) ≡ (isTime e && isAnswered (c .stand .phase)) =
         t ∙ ap (λ (b : Bool). b && isAnswered (c .stand .phase)) (passing e) in
-        g ∙ ap (λ (x : ℕ). c .meters .total + x)
-        (ap (λ (b : Bool). onlyIf b (readOf e .seconds)) k ∙ seconds-count e (isAnswered (c .stand .phase)))
+        let u : begins (planFor c e .change) ≡ isOpens (readOf e .kind) =
+        are-alike _ _ (right (alike (timed (planFor c e .change)) (isPassing (readOf e .kind) && isAnswered (c .stand .phase))) _ w) in
+        let i : begins (planFor c e .change) ≡ anOpening e = u ∙ Phases.opens e in
+        g ∙ ap (λ (b : Bool). onlyIf (not b) (c .meters .total) + onlyIf (timed (planFor c e .change)) (readOf e .seconds)) i
+        ∙ ap (λ (b : Bool). onlyIf (not (anOpening e)) (c .meters .total) + onlyIf b (readOf e .seconds)) k
+        ∙ seconds-count e (isAnswered (c .stand .phase)) (c .meters .total)
 
 first-lasted : (s : Step) (h : List Step) (b : Bool) → sum (pick b (secondsIn (s .event) ∷ times h) (times h)) ≡ pick b (secondsIn (s .event)) 0 + sum (times h)
 first-lasted s h true = refl
 first-lasted s h false = omega arith
 
-pub total-after : (c : Call) (es : List Event) → totalOf (run c es) ≡ totalOf c + answered (history c es)
-total-after c [] = omega arith
-total-after c (e ∷ es) =
+pub total-after : (c : Call) (es : List Event) → noneOpens (history c es) ≡ true → totalOf (run c es) ≡ totalOf c + answered (history c es)
+total-after c [] u = omega arith
+total-after c (e ∷ es) u =
     let n = stepOf c e in
-    let l = total-counts c e in
-    let r = total-after (n .call) es in
-    let k = first-lasted (written c e n) (history (n .call) es) (counted (written c e n)) in
+    let s = written c e n in
+    let l : totalOf (n .call) ≡ totalOf c + lastedIn s =
+    total-counts c e ∙ ap (λ (b : Bool). pick b 0 (totalOf c + lastedIn s)) (first-unopening s (history (n .call) es) u) in
+    let r = total-after (n .call) es (rest-unopening s (history (n .call) es) u) in
+    let k = first-lasted s (history (n .call) es) (counted s) in
     omega (arith, l, r, k)
 
 -- ---- From an opening
 
-no-seconds : (b : Bool) → 0 + pick b 0 0 ≡ 0
-no-seconds true = refl
-no-seconds false = refl
-
 opens-at-0 : (r f : ℕ) (own : Number) → totalOf (stepOf unopenedCall (Opening r f own) .call) ≡ 0
-opens-at-0 r f own = total-counts unopenedCall (Opening r f own) ∙ no-seconds (counted (written unopenedCall (Opening r f own) (stepOf unopenedCall (Opening r f own))))
+opens-at-0 r f own = in-range-or-not (eventOk (Opening r f own))
+  where
+    in-range-or-not : (b : Bool) → totalOf (ifInRange b unopenedCall (Opening r f own) .call) ≡ 0
+    in-range-or-not true = refl
+    in-range-or-not false = refl
 
-from-opening : (r f : ℕ) (own : Number) → (es : List Event) →
+from-opening : (r f : ℕ) (own : Number) → (es : List Event) → noneOpens (history (stepOf unopenedCall (Opening r f own) .call) es) ≡ true →
     totalOf (run (stepOf unopenedCall (Opening r f own) .call) es) ≡ answered (history (stepOf unopenedCall (Opening r f own) .call) es)
-from-opening r f own es =
+from-opening r f own es u =
     let z = opens-at-0 r f own in
-    let t = total-after (stepOf unopenedCall (Opening r f own) .call) es in
+    let t = total-after (stepOf unopenedCall (Opening r f own) .call) es u in
     omega (arith, z, t)
 
-pub total-answered : (f : ℕ) (own : Number) → (es : List Event) →
+pub total-answered : (f : ℕ) (own : Number) → (es : List Event) → noneOpens (history (opening f own .call) es) ≡ true →
     totalOf (run (opening f own .call) es) ≡ answered (history (opening f own .call) es)
 total-answered = from-opening 0
 
-pub total-there : (f : ℕ) (own : Number) → (es : List Event) →
+pub total-there : (f : ℕ) (own : Number) → (es : List Event) → noneOpens (history (openingThere f own .call) es) ≡ true →
     totalOf (run (openingThere f own .call) es) ≡ answered (history (openingThere f own .call) es)
 total-there = from-opening 1
 
 pub total-is-sum : (f : ℕ) (own : Number) → opening f own .number ≡ 0 → (es : List Event) →
-    totalOf (run (opening f own .call) es) ≡ sumOf (run (opening f own .call) es .meters)
-total-is-sum f own e es = total-answered f own es ∙ sym (Whole.billed f own e es .all)
+    noneOpens (history (opening f own .call) es) ≡ true → totalOf (run (opening f own .call) es) ≡ sumOf (run (opening f own .call) es .meters)
+total-is-sum f own e es u = total-answered f own es u ∙ sym (Whole.billed f own e es u .all)
 
 -- ---- 9: which totals are a call's
 

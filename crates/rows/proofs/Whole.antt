@@ -2,23 +2,24 @@
 -- Of the meters it uses what their crate promises, Rattle.meters.proofs.Laws; of the rows, their definitions.
 -- Assumes nothing.
 use mathlib.Core.Path.{_≡_, refl, sym, _∙_, ap, subst}
-use mathlib.Core.Bool.{Bool, true, false, _&&_, _||_}
+use mathlib.Core.Bool.{Bool, true, false, _&&_, _||_, not}
 use mathlib.Core.List.{List, [], _∷_}
 use Prim.Native.Nat.{ℕ, _+_}
 use native.Mathlib.Omega.{arith}
 use lib.Dec.{eqb, leb}
+use borrow.Author.Tests.{not-true}
 use Rattle.meters.proofs.Laws
 use Rattle.meters.proofs.Laws.{Gave, gave, Moved, moved}
 use Rattle.meters.specs.Meters.{newOf, paidByOf, giveOf, entireOf}
 use Rattle.meters.specs.declared.Meters.{Meters}
 use Rattle.meters.specs.declared.Payer.{Payer}
 use Rattle.meters.specs.declared.Payer.the-variants.{Nobody, Caller, Called, Far}
-use Rattle.rows.specs.Bill.{pick, Step, accepted, isAnswered, secondsIn, counted, times, sum, answered, resultTo, invokeOf, Said}
+use Rattle.rows.specs.Bill.{pick, Step, accepted, secondsIn, counted, times, sum, answered, resultTo, invokeOf, Said}
 use Rattle.rows.specs.Bill.{saying, silence, said, Case, caseB, caseC, caseD, Mark, plain, second, reversed, turnsSetup}
 use Rattle.rows.specs.Bill.{turnsAnswered, turns, inEffect, isRev, markBy, stillWaits, waitsIn, waitsBy, waits, marks, Took, nothing}
 use Rattle.rows.specs.Bill.{took}
-use Rattle.rows.specs.Bill.{reversal, turnedTo, covers, payer, payments, bill, allSeconds, same, owed}
-use Rattle.rows.specs.Find.{originatingNullOf, originatingSetupIdleOf, waitSetupOf, originatingWaitAnswerOf}
+use Rattle.rows.specs.Bill.{reversal, turnedTo, covers, payer, payments, bill, allSeconds, same, owed, anOpening, opens, noneOpens}
+use Rattle.rows.specs.Find.{vacantOf, originatingNullOf, originatingSetupIdleOf, waitSetupOf, originatingWaitAnswerOf}
 use Rattle.rows.specs.Find.{originatingAnsweredIdleOf, waitActiveOf, activeOf}
 use Rattle.rows.specs.History.{run, written, history, opening}
 use Rattle.rows.specs.Perform.{performOf}
@@ -56,6 +57,7 @@ use Rattle.rows.specs.declared.Role.the-variants.{Originating}
 use Rattle.rows.specs.declared.Row.{Row}
 use Rattle.rows.proofs.Answers.{performed, settled, refused-or-performed}
 use Rattle.rows.proofs.Found.{split, fork}
+use Rattle.rows.proofs.Truth.{differ, left, right}
 
 -- ---- What a reader of the history knows so far: the reversal, the seconds before it and those after it
 
@@ -140,6 +142,16 @@ kinds P false false false i n l c = c
 
 pub by-kind : (m : Message) (P : Kind → Type 0) → P Iam → P Answer → P Rel → P Fac → P (kindOf (m .kind))
 by-kind m P = kinds P (eqb (m .kind) 1) (eqb (m .kind) 2 || eqb (m .kind) 3) (eqb (m .kind) 4)
+
+-- a cleared call has a row for an opening, and for nothing else
+pub after-clearing : (P : Row → Type 0) (e : Event) → (anOpening e ≡ true → P Row.Opened) → P Row.NoRow →
+    P (vacantOf (readOf e .kind) (cueOf (readOf e)))
+after-clearing P (Opening r f n) h p = h refl
+after-clearing P (Ask q n) h p = p
+after-clearing P (Received m) h p = by-kind m (λ (k : Kind). P (vacantOf k (cueOf (readOf (Received m))))) p p p p
+after-clearing P (FromAccess a n) h p = p
+after-clearing P Expiry h p = p
+after-clearing P (Time s) h p = p
 
 -- ---- What the meters promise
 
@@ -311,15 +323,21 @@ module _ (f : ℕ) (u v w : Number) (a r : Bool) (d : Mark) (m : Message) (s : S
 abbrev Kept : ℕ → Call → Mark → Known → Event → Type 0
 Kept f c d o e = Good f (heardIn f e) c d o e (performed c e)
 
-opens : (f k g : ℕ) (n : Number) {c : Call} {d : Mark} {o : Known} → Agrees f c d o → Kept f c d o (Opening k g n)
-opens f k g n null = search states
-opens f k g n setup = search states
-opens f k g n asked-A = search states
-opens f k g n asked-D = search states
-opens f k g n (talks z) = search states
-opens f k g n (asked-B z) = search states
-opens f k g n (turned z) = search states
-opens f k g n (over z) = search states
+-- an answer that accepts no opening
+abbrev pub Unopening : Event → Outcome → Type 0
+Unopening e a = (eqb (a .number) 0 && anOpening e) ≡ false
+
+-- an opening is accepted at a cleared call alone: there another call begins
+reopens : (f k g : ℕ) (n : Number) {c : Call} {d : Mark} {o : Known} → Agrees f c d o →
+    Unopening (Opening k g n) (performed c (Opening k g n)) → Kept f c d o (Opening k g n)
+reopens f k g n null h = search states
+reopens f k g n setup h = search states
+reopens f k g n asked-A h = search states
+reopens f k g n asked-D h = search states
+reopens f k g n (talks z) h = search states
+reopens f k g n (asked-B z) h = search states
+reopens f k g n (turned z) h = search states
+reopens f k g n (over z) h = differ (sym h)
 
 asks : (f q : ℕ) (n : Number) {c : Call} {d : Mark} {o : Known} → Agrees f c d o → Kept f c d o (Ask q n)
 asks f q n {c} {d} {o} (null {u} {v} {w} {a} {r}) =
@@ -410,7 +428,7 @@ module _ (f : ℕ) (m : Message) where
       by-kind m (K c d o activeOf) (search states) (search states)
       (search states)
       (split (P c d o) (word .invoke) _ _ (search states) (search states))
-  receives (over z) = search states
+  receives {c} {d} {o} (over z) = by-kind m (K c d o vacantOf) (search states) (search states) (search states) (search states)
 
 tells : (f k n : ℕ) {c : Call} {d : Mark} {o : Known} → Agrees f c d o → Kept f c d o (FromAccess k n)
 tells f k n null = search states
@@ -445,23 +463,32 @@ passes f s {c} {d} {o} (turned {t = t} {m = m} {k = k} z) =
     settled (Good f silence c d o (Time s)) (giveOf m s) _ _ _ (λ n h. turned (ticks (took k t) z (gave m n s h))) (search states) (search states)
 passes f s (over z) = over z
 
-takes : (f : ℕ) {c : Call} {d : Mark} {o : Known} (e : Event) → Agrees f c d o → Kept f c d o e
-takes f (Opening k g n) y = opens f k g n y
-takes f (Ask q n) y = asks f q n y
-takes f (Received m) y = receives f m y
-takes f (FromAccess k n) y = tells f k n y
-takes f Expiry y = expires f y
-takes f (Time s) y = passes f s y
+takes : (f : ℕ) {c : Call} {d : Mark} {o : Known} (e : Event) → Agrees f c d o → Unopening e (performed c e) → Kept f c d o e
+takes f (Opening k g n) y h = reopens f k g n y h
+takes f (Ask q n) y h = asks f q n y
+takes f (Received m) y h = receives f m y
+takes f (FromAccess k n) y h = tells f k n y
+takes f Expiry y h = expires f y
+takes f (Time s) y h = passes f s y
 
-keeps-heard : (f : ℕ) {c : Call} {d : Mark} {o : Known} (e : Event) → Agrees f c d o → Good f (heardIn f e) c d o e (stepOf c e)
+keeps-heard : (f : ℕ) {c : Call} {d : Mark} {o : Known} (e : Event) → Agrees f c d o → Unopening e (stepOf c e) →
+    Good f (heardIn f e) c d o e (stepOf c e)
 keeps-heard f {c} {d} {o} e y =
-    refused-or-performed (Good f (heardIn f e) c d o e) c e y
-    (record { one = y; three = λ k. y; fifteen = y; sixteen = y; seventeen = y; eighteen = y }) (takes f e y)
+    refused-or-performed (λ (a : Outcome). Unopening e a → Good f (heardIn f e) c d o e a) c e (λ h. y)
+    (record { one = λ h. y; three = λ k h. y; fifteen = λ h. y; sixteen = λ h. y; seventeen = λ h. y; twenty = λ h. y }) (takes f e y)
 
-pub keeps : (f : ℕ) {c : Call} {d : Mark} {o : Known} (e : Event) → Agrees f c d o → Good f (said f e) c d o e (stepOf c e)
-keeps f {c} {d} {o} e y = subst (λ (s : Said). Good f s c d o e (stepOf c e)) (same-words f e) (keeps-heard f e y)
+pub keeps : (f : ℕ) {c : Call} {d : Mark} {o : Known} (e : Event) → Agrees f c d o → Unopening e (stepOf c e) →
+    Good f (said f e) c d o e (stepOf c e)
+keeps f {c} {d} {o} e y h = subst (λ (s : Said). Good f s c d o e (stepOf c e)) (same-words f e) (keeps-heard f e y h)
 
--- ---- THE INDUCTION: from a call that agrees, any events lead to one that agrees
+-- no step of a history opens: not the first, and none after it
+pub first-unopening : (s : Step) (h : List Step) → noneOpens (s ∷ h) ≡ true → opens s ≡ false
+first-unopening s h k = not-true _ (left (not (opens s)) _ k)
+
+pub rest-unopening : (s : Step) (h : List Step) → noneOpens (s ∷ h) ≡ true → noneOpens h ≡ true
+rest-unopening s h k = right (not (opens s)) _ k
+
+-- ---- THE INDUCTION: from a call that agrees, any events among which no opening is accepted lead to one that agrees
 
 abbrev pub readAll : Known → List Mark → Known
 readAll o [] = o
@@ -471,10 +498,12 @@ abbrev pub waiting : ℕ → Mark → List Step → Mark
 waiting f d [] = d
 waiting f d (s ∷ h) = waiting f (waits f d s) h
 
-pub reached : (f : ℕ) {c : Call} {d : Mark} {o : Known} (es : List Event) → Agrees f c d o →
+pub reached : (f : ℕ) {c : Call} {d : Mark} {o : Known} (es : List Event) → Agrees f c d o → noneOpens (history c es) ≡ true →
     Agrees f (run c es) (waiting f d (history c es)) (readAll o (marks f d (history c es)))
-reached f [] y = y
-reached f (e ∷ es) y = reached f es (keeps f e y)
+reached f [] y n = y
+reached f {c} (e ∷ es) y n =
+    reached f es (keeps f e y (first-unopening (written c e (stepOf c e)) (history (stepOf c e .call) es) n))
+    (rest-unopening (written c e (stepOf c e)) (history (stepOf c e .call) es) n)
 
 -- the meters of a call that agrees are what is due
 agreed-due : {f : ℕ} {c : Call} {d : Mark} {o : Known} → Agrees f c d o → Due (c .meters) o
@@ -618,10 +647,11 @@ pub record Shows (c : Call) (f : ℕ) (h : List Step) : Type 0 where
   -- the meters add up to the answered seconds
   pub all : c .meters .caller + c .meters .called + c .meters .far ≡ answered h
 
-pub agreed-shows : {f : ℕ} {c : Call} (es : List Event) → Agrees f c plain atFirst → Shows (run c es) f (history c es)
-agreed-shows {f} {c} es y =
+agreed-shows : {f : ℕ} {c : Call} (es : List Event) → Agrees f c plain atFirst → noneOpens (history c es) ≡ true →
+    Shows (run c es) f (history c es)
+agreed-shows {f} {c} es y n =
     let ms : List Mark = marks f plain (history c es) in
-    let h = agreed-due (reached f es y) in
+    let h = agreed-due (reached f es y n) in
     let p = h .0 ∙ owed-due Caller ms in
     let q = h .1 ∙ owed-due Called ms in
     let r = h .2 ∙ owed-due Far ms in
@@ -637,40 +667,11 @@ opened f own false e = absurd (omega arith)
 pub from-opening : (f : ℕ) (own : Number) → opening f own .number ≡ 0 → Agrees f (opening f own .call) plain atFirst
 from-opening f own e = opened f own (eventOk (Opening 0 f own)) e
 
--- any flags and own number with which an originating call is opened; any events, refused ones among them
-pub billed : (f : ℕ) (own : Number) → opening f own .number ≡ 0 → (es : List Event) →
+-- any flags and own number with which an originating call is opened; any events after its latest accepted opening, refused ones among them
+pub billed : (f : ℕ) (own : Number) → opening f own .number ≡ 0 → (es : List Event) → noneOpens (history (opening f own .call) es) ≡ true →
     Shows (run (opening f own .call) es) f (history (opening f own .call) es)
-billed f own e es = agreed-shows es (from-opening f own e)
+billed f own e es n = agreed-shows es (from-opening f own e) n
 
 -- such an opening is one whose fields are in range: flags to 31, an own number
 pub opens-in-range : (f : ℕ) (own : Number) → eventOk (Opening 0 f own) ≡ true → opening f own .number ≡ 0
 opens-in-range f own e = ap (λ (b : Bool). ifInRange b unopenedCall (Opening 0 f own) .number) e
-
--- ---- No history from an opening reaches an ANSWERED call whose payer is nobody
-
-somebody : (w : Took) (b : Bool) → same Nobody (payer w b) ≡ false
-somebody nothing b = refl
-somebody (took k t) b = go (covers k b) t
-  where
-    go : (c t′ : Bool) → same Nobody (pick c (turnedTo t′) Caller) ≡ false
-    go true true = refl
-    go true false = refl
-    go false t′ = refl
-
-agreed-paid : {f : ℕ} {c : Call} {d : Mark} {o : Known} → Agrees f c d o → (isAnswered (c .stand .phase) && same Nobody (c .meters .payer)) ≡ false
-agreed-paid null = refl
-agreed-paid setup = refl
-agreed-paid asked-A = refl
-agreed-paid asked-D = refl
-agreed-paid (talks z) = ap (same Nobody) (z .pays)
-agreed-paid (asked-B z) = ap (same Nobody) (z .pays)
-agreed-paid (turned {t = t} {k = k} z) = ap (same Nobody) (z .pays) ∙ somebody (took k t) true
-agreed-paid (over z) = refl
-
-pub somebody-pays : (f : ℕ) (own : Number) → opening f own .number ≡ 0 → (es : List Event) →
-    run (opening f own .call) es .stand .phase ≡ Answered → run (opening f own .call) es .meters .payer ≡ Nobody → ⊥
-somebody-pays f own e es p q =
-    let h = agreed-paid (reached f es (from-opening f own e)) in
-    let z : true ≡ false = sym (ap (λ (x : Phase). isAnswered x && same Nobody (run (opening f own .call) es .meters .payer)) p ∙ ap (same Nobody) q) ∙ h in
-    let n : _≡_ {A = ℕ} 0 1 = cc in
-    omega arith

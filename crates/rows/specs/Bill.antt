@@ -10,11 +10,12 @@
 -- meter, no payer, no total, no case that a call holds. It takes nothing from the definitions of the rows, and reads the numbers
 -- of an event by tests of its own.
 --
--- It asks the history for one reversal at most, the first, and does not look for a second call in it: a reversal takes effect once at
--- most (`one-reversal`), and a cleared or opened call refuses an opening, which demand 2 says and not this file.
+-- It asks the history for one reversal at most, the first: a reversal takes effect once at most (`one-reversal`). And it does not look for a
+-- second call in it: an opening takes a call that has cleared (02 #107), and its history begins anew with that opening. `line`, at the
+-- end, finds the latest accepted opening and hands the bill the steps after it.
 -- Assumes nothing.
 use Prim.Native.Nat.{ℕ, _+_, _/_, _%_}
-use mathlib.Core.Bool.{Bool, true, false, _&&_}
+use mathlib.Core.Bool.{Bool, true, false, _&&_, not}
 use mathlib.Core.List.{List, [], _∷_}
 use lib.Dec.{eqb}
 use Rattle.meters.specs.declared.Payer.{Payer}
@@ -321,14 +322,32 @@ abbrev pub owed : Payer → List Paid → ℕ
 owed q [] = 0
 owed q (x ∷ xs) = pick (same q (x .by)) (x .seconds) 0 + owed q xs
 
--- ---- From before the opening. The first accepted step is the opening; the flags stand in its event, and the steps after it
--- are the call's history
+-- ---- From before any opening, 02 #107: "Demands 2 and 3 hold for each slot from its latest accepted opening". The flags stand in that
+-- opening's event, and the steps after it are the call's history
 
 pub data Line : Type 0 where
   unopened : Line
   originating : ℕ → List Step → Line
   destination : Line
   strange : Line
+
+-- 01, kind 1
+abbrev pub anOpening : Event → Bool
+anOpening (Opening r f n) = true
+anOpening (Ask q n) = false
+anOpening (Received m) = false
+anOpening (FromAccess a n) = false
+anOpening Expiry = false
+anOpening (Time s) = false
+
+-- an accepted opening
+abbrev pub opens : Step → Bool
+opens s = accepted s && anOpening (s .event)
+
+-- no step is an accepted opening: what the history began with is still the latest
+abbrev pub noneOpens : List Step → Bool
+noneOpens [] = true
+noneOpens (s ∷ h) = not (opens s) && noneOpens h
 
 abbrev pub openedBy : Event → List Step → Line
 openedBy (Opening r f n) h = pick (eqb r 0) (originating f h) (pick (eqb r 1) destination strange)
@@ -338,6 +357,14 @@ openedBy (FromAccess a n) h = strange
 openedBy Expiry h = strange
 openedBy (Time s) h = strange
 
+-- what stands later in the history, if anything was opened there
+abbrev pub laterOf : Line → Line → Line
+laterOf unopened l = l
+laterOf (originating f h) l = originating f h
+laterOf destination l = destination
+laterOf strange l = strange
+
+-- the latest accepted opening, and the steps after it
 abbrev pub line : List Step → Line
 line [] = unopened
-line (s ∷ h) = pick (accepted s) (openedBy (s .event) h) (line h)
+line (s ∷ h) = laterOf (line h) (pick (opens s) (openedBy (s .event) h) unopened)

@@ -5,13 +5,14 @@ use mathlib.Core.List.{List, [], _∷_}
 use mathlib.Core.Path.{_≡_, refl}
 use Rattle.meters.specs.declared.Payer.{Payer}
 use Rattle.meters.specs.declared.Payer.the-variants.{Caller, Called, Far}
-use Rattle.rows.specs.Bill.{Paid, bill, Step}
+use Rattle.rows.specs.Bill.{Paid, bill, Step, Line, unopened, originating, destination, strange, line}
 use Rattle.rows.specs.Telephone.{absent}
-use Rattle.rows.specs.History.{history, opening}
+use Rattle.rows.specs.History.{run, history, opening}
+use Rattle.rows.specs.Step.{unopenedCall}
 use Rattle.rows.specs.declared.Component.{Component}
 use Rattle.rows.specs.declared.Component.the-variants.{Absent, Invoke, Result}
 use Rattle.rows.specs.declared.Event.{Event}
-use Rattle.rows.specs.declared.Event.the-variants.{Ask, Received, FromAccess, Expiry, Time}
+use Rattle.rows.specs.declared.Event.the-variants.{Opening, Ask, Received, FromAccess, Expiry, Time}
 use Rattle.rows.specs.declared.Nature.the-variants.{International}
 use Rattle.rows.specs.declared.Number.{Number}
 use Rattle.rows.specs.declared.Phase.{Phase}
@@ -86,6 +87,34 @@ d-plain = refl
 not-allowed : billOf 1 (Ask 0 room ∷ message 5 (Invoke 3) 1 absent ∷ answer ∷ Time 20 ∷ message 5 (Invoke 3) 1 absent ∷ Time 10 ∷ [])
     ≡ paid 20 Caller ∷ paid 10 Caller ∷ []
 not-allowed = refl
+
+-- ---- From the latest accepted opening, 02 #107
+
+-- the bill of a history from before any opening
+abbrev billFrom : Line → List Paid
+billFrom unopened = []
+billFrom (originating f h) = bill f h
+billFrom destination = []
+billFrom strange = []
+
+abbrev billAfter : List Event → List Paid
+billAfter es = billFrom (line (history unopenedCall es))
+
+-- a call of 40 s that was reversed with transfer and cleared; another of 7 s after it, under other flags: its bill is its own, and an opening
+-- that was refused, in use or out of range, begins nothing
+abbrev two-calls : List Event
+two-calls =
+    Opening 0 9 room ∷ Ask 1 room ∷ message 2 (Result 1) 6 absent ∷ Time 40 ∷ FromAccess 4 0
+    ∷ Opening 0 8 room ∷ Ask 0 room ∷ answer ∷ Opening 0 9 room ∷ Time 7 ∷ FromAccess 4 0 ∷ Opening 0 32 room ∷ []
+
+opened-again : (billAfter two-calls ≡ paid 7 Caller ∷ []) × (run unopenedCall two-calls .meters .caller ≡ 7)
+    × (run unopenedCall two-calls .meters .far ≡ 0)
+opened-again = (refl, refl, refl)
+
+-- until the second is opened the first one's bill stands
+first-of-two : billAfter (Opening 0 9 room ∷ Ask 1 room ∷ message 2 (Result 1) 6 absent ∷ Time 40 ∷ FromAccess 4 0 ∷ Time 5 ∷ [])
+    ≡ paid 40 Far ∷ []
+first-of-two = refl
 
 -- ---- Histories that these rows do not write: the bill names the payer from the steps alone
 

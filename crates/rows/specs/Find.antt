@@ -32,17 +32,17 @@ abbrev pub when : Bool → Row → Row → Row
 when true a b = a
 when false a b = b
 
--- before the opening
-abbrev pub unopenedOf : Kind → Cue → Row
-unopenedOf Opens e = Opened  -- G1  01, kind 1
-unopenedOf Asks e = NoRow
-unopenedOf Iam e = NoRow
-unopenedOf Answer e = NoRow
-unopenedOf Rel e = NoRow
-unopenedOf Fac e = NoRow
-unopenedOf Tells e = NoRow
-unopenedOf Expires e = NoRow
-unopenedOf Passes e = NoRow
+-- before the opening, and after the clearing: 02 #107, "An opening takes the slot it names if that was never opened or has cleared"
+abbrev pub vacantOf : Kind → Cue → Row
+vacantOf Opens e = Opened  -- G1  01, kind 1; 02 #107, "An opening takes the slot it names"
+vacantOf Asks e = NoRow
+vacantOf Iam e = NoRow
+vacantOf Answer e = NoRow
+vacantOf Rel e = NoRow
+vacantOf Fac e = NoRow
+vacantOf Tells e = NoRow
+vacantOf Expires e = NoRow
+vacantOf Passes e = NoRow
 
 -- originating, NULL
 abbrev pub originatingNullOf : Kind → Cue → Row
@@ -303,11 +303,11 @@ originatingAnsweredOf WaitCalled e = NoRow
 
 -- originating
 abbrev pub originatingOf : Phase → RevState → Cue → Row
-originatingOf Unopened s e = unopenedOf (e .kind) e
+originatingOf Unopened s e = vacantOf (e .kind) e
 originatingOf Null s e = originatingNullOf (e .kind) e
 originatingOf Setup s e = originatingSetupOf s e
 originatingOf Answered s e = originatingAnsweredOf s e
-originatingOf Cleared s e = NoRow
+originatingOf Cleared s e = vacantOf (e .kind) e
 
 -- destination, SETUP
 abbrev pub destinationSetupOf : RevState → Cue → Row
@@ -333,11 +333,11 @@ destinationAnsweredOf WaitCalled e = answeredWaitCalledOf (e .kind) e
 
 -- destination
 abbrev pub destinationOf : Phase → RevState → Cue → Row
-destinationOf Unopened s e = unopenedOf (e .kind) e
+destinationOf Unopened s e = vacantOf (e .kind) e
 destinationOf Null s e = destinationNullOf (e .kind) e
 destinationOf Setup s e = destinationSetupOf s e
 destinationOf Answered s e = destinationAnsweredOf s e
-destinationOf Cleared s e = NoRow
+destinationOf Cleared s e = vacantOf (e .kind) e
 
 -- the row that a role has for an event in a phase and REV state
 abbrev pub rowForOf : Role → Phase → RevState → Cue → Row

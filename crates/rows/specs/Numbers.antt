@@ -31,12 +31,13 @@ wrongPhase = 15
 abbrev pub wrongState : ℕ
 wrongState = 16
 
--- 02 #106, beside 01's "Numbers given back": "An event before the opening gets 17 and a second opening 18"
+-- 02 #106, beside 01's "Numbers given back": "An event before the opening gets 17"
 abbrev pub beforeOpening : ℕ
 beforeOpening = 17
 
-abbrev pub openedBefore : ℕ
-openedBefore = 18
+-- 02 #107, beside 01's "Numbers given back": "20 slot in use", "20 in 18's place"
+abbrev pub slotInUse : ℕ
+slotInUse = 20
 
 -- 01, kind 3: messages
 abbrev pub iam : ℕ

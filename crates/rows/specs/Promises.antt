@@ -46,6 +46,20 @@ pub record NothingDone (c : Call) (o : Outcome) : Type 0 where
   pub third : o .third ≡ Act.Nothing
   pub fourth : o .fourth ≡ Act.Nothing
 
+-- ---- An opening starts anew (02 #107): proofs/Anew.antt
+
+-- of the answers to an opening at a free call (a) and at one that was never opened (b): the same number, field, actions and what they carry;
+-- and where the opening is accepted the same call too, so that nothing of the call before is left
+pub record AsFresh (a b : Outcome) : Type 0 where
+  pub number : a .number ≡ b .number
+  pub field : a .field ≡ b .field
+  pub note : a .note ≡ b .note
+  pub first : a .first ≡ b .first
+  pub second : a .second ≡ b .second
+  pub third : a .third ≡ b .third
+  pub fourth : a .fourth ≡ b .fourth
+  pub whole : a .number ≡ 0 → a ≡ b
+
 -- ---- A call stays a call: proofs/Stays.antt
 
 -- no step of a history was given this number

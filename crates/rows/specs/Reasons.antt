@@ -1,10 +1,10 @@
--- WHAT IS PROMISED of the reasons for a refusal (02 #106): the words that the theorems on 1, 3, 15, 16, 17 and 18 use. Here the tables are
+-- WHAT IS PROMISED of the reasons for a refusal (02 #106): the words that the theorems on 1, 3, 15, 16, 17 and 20 use. Here the tables are
 -- asked themselves (Find.antt), as the request does: "the role has a row". proofs/Theorems.antt states them.
 -- Assumes nothing.
 use Prim.Native.Nat.{ℕ, zero, suc, _<_}
 use mathlib.Core.Bool.{Bool, true, false, _||_}
 use mathlib.Core.List.{List, [], _∷_}
-use mathlib.Core.Logic.{_↔_}
+use mathlib.Core.Logic.{_↔_, _⊎_}
 use mathlib.Core.Path.{_≡_}
 use lib.Dec.{eqb}
 use Rattle.rows.specs.Find.{rowForOf}
@@ -19,7 +19,7 @@ use Rattle.rows.specs.declared.Event.{Event}
 use Rattle.rows.specs.declared.Event.the-variants.{Opening, Ask, Received, FromAccess, Expiry, Time}
 use Rattle.rows.specs.declared.Number.{Number}
 use Rattle.rows.specs.declared.Phase.{Phase}
-use Rattle.rows.specs.declared.Phase.the-variants.{Unopened}
+use Rattle.rows.specs.declared.Phase.the-variants.{Unopened, Cleared}
 use Rattle.rows.specs.declared.RevState.{RevState}
 use Rattle.rows.specs.declared.Role.{Role}
 use Rattle.rows.specs.declared.Row.{Row}
@@ -27,9 +27,13 @@ use Rattle.rows.specs.declared.Row.the-variants.{NoRow}
 
 -- ---- Why there was no row: proofs/Reasons.antt
 
--- the event comes in its time: it is an opening exactly where the call was not opened (01's NONE)
+-- "never opened or has cleared": 01's NONE, or CLEARED
+abbrev pub Vacant : Phase → Type 0
+Vacant p = (p ≡ Unopened) ⊎ (p ≡ Cleared)
+
+-- the event comes in its time: an opening at a call that was never opened or has cleared, any other event at a call that was opened
 abbrev pub Timely : Call → Event → Type 0
-Timely c e = (c .stand .phase ≡ Unopened) ↔ (isOpening e ≡ true)
+Timely c e = (isOpening e ≡ true → Vacant (c .stand .phase)) × (isOpening e ≡ false → c .stand .phase ≡ Unopened → ⊥)
 
 -- the event is judged by the tables: the call is one, the event comes in its time, and its fields are in range
 pub record Looked (c : Call) (e : Event) : Type 0 where
@@ -61,7 +65,7 @@ OtherState r p s e = (rowAt r p s e ≡ NoRow) × HasRowIn r p e
 
 -- the number where it is one of these reasons, else 0
 abbrev pub reason : ℕ → ℕ
-reason n = pickℕ (eqb n 1 || (eqb n 15 || (eqb n 16 || (eqb n 17 || eqb n 18)))) n 0
+reason n = pickℕ (eqb n 1 || (eqb n 15 || (eqb n 16 || (eqb n 17 || eqb n 20)))) n 0
 
 -- "An event" is what the record says: kind, and request, or message with component and (invoke, result) operation, or the access's item.
 -- Two that are the same in this may differ in role, flags, numbers, cause, error, parts, Duration and seconds

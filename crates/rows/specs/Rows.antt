@@ -8,7 +8,8 @@
 -- Where next (Perform.antt, standOf): ToSetup, ToAnswered, ToCleared are SETUP, ANSWERED and CLEARED with REV IDLE; ToActive is ANSWERED
 -- and ACTIVE; ToWait.. is that wait; Stay is as it was.
 -- Who pays from then on: CallerPays and CalledPays are charged at this exchange, FarPays at the other one (for the originating exchange
--- that is transfer mode, for the destination no transfer); EntireTo.. moves the caller's seconds there too; Keep is as before.
+-- that is transfer mode, for the destination no transfer); EntireTo.. moves the caller's seconds there too; Keep is as before. Begin: the
+-- meters and the total are 0, and nobody pays.
 -- Transfer or not (Read.antt, termsOf): mode, this exchange supports it; taken, an invoke requests it and this exchange supports it;
 -- accepted, this exchange requested it and the result accepts it; agreed, what was settled when the wait began.
 -- A message's parts: transferPart, Transfer Requested; agreedParts, Transfer Accepted; partialPart, Partial Call Only; callingPart and
@@ -21,8 +22,8 @@ use Rattle.rows.specs.Numbers.{notAvailable, interactionNotAllowed, basi
 use Rattle.rows.specs.Numbers.{normalClearing, facilityRejected, timerExpiry, noPart, transferPart, agreedParts, partialPart}
 use Rattle.rows.specs.Numbers.{callingPart, calledPart, durationPart}
 use Rattle.meters.specs.declared.Change.{Change}
-use Rattle.meters.specs.declared.Change.the-variants.{Keep, CallerPays, CalledPays, FarPays, NobodyPays, EntireToCalled, EntireToFar}
-use Rattle.meters.specs.declared.Change.the-variants.{TimePasses, DurationReceived}
+use Rattle.meters.specs.declared.Change.the-variants.{Keep, Begin, CallerPays, CalledPays, FarPays, NobodyPays, EntireToCalled}
+use Rattle.meters.specs.declared.Change.the-variants.{EntireToFar, TimePasses, DurationReceived}
 use Rattle.rows.specs.declared.Act.{Act}
 use Rattle.rows.specs.declared.Act.the-variants.{Nothing, NotifyAccepted, AccessSetup, AccessAsk, AccessError, AccessRel}
 use Rattle.rows.specs.declared.Act.the-variants.{ChargeCalling, ChargeCalled, Stop, SendIam, SendAnm, SendRel, SendFac}
@@ -320,7 +321,7 @@ calledAccepted Entire Transfer calling duration =  -- D47  3.5.2.4.5.1 b; 01, "a
 
 abbrev pub planOf : Row → Terms → Plan
 planOf NoRow t = refuses noRow  -- not asked: where there is no row, Step.antt says why
-planOf Opened t = quiet ToNull Keep FromOpening  -- G1  01, kind 1
+planOf Opened t = quiet ToNull Begin FromOpening  -- G1  01, kind 1; 02 #107, "An opening takes the slot it names"
 planOf TimeInSetup t = quiet Stay Keep AsHeld  -- G2  01, "only ANSWERED counts"
 planOf TimeCounts t = quiet Stay TimePasses AsHeld  -- G3  01, "one of them runs and takes all seconds"
 -- G4  01, "own access clearing"; O19  3.5.2.5.1.2, second sentence; D15  3.5.2.1.5.2 iii and 01;

@@ -1,10 +1,10 @@
 -- One step of a call: the answer to any event in any state.
 -- Assumes nothing.
 use Prim.Native.Nat.{ℕ}
-use mathlib.Core.Bool.{Bool, true, false}
+use mathlib.Core.Bool.{Bool, true, false, _&&_}
 use lib.Dec.{eqb}
 use Rattle.rows.specs.Find.{rowForOf}
-use Rattle.rows.specs.Numbers.{badField, notACall, beforeOpening, openedBefore, iam, anm, rel, fac}
+use Rattle.rows.specs.Numbers.{badField, notACall, beforeOpening, slotInUse, iam, anm, rel, fac}
 use Rattle.rows.specs.Perform.{at, refusedAt, refusedOf, performOf}
 use Rattle.rows.specs.Read.{flagsOf, readOf, cueOf, termsOf}
 use Rattle.rows.specs.Telephone.{absent}
@@ -69,35 +69,46 @@ isOpening (FromAccess a n) = false
 isOpening Expiry = false
 isOpening (Time s) = false
 
-abbrev pub isUnopened : Phase → Bool
-isUnopened Unopened = true
-isUnopened Null = false
-isUnopened Setup = false
-isUnopened Answered = false
-isUnopened Cleared = false
+-- By phase and whether the event is an opening: 02 #107, "An opening takes the slot it names if that was never opened or has cleared", else
+-- 20; at a call that was never opened every other event is 17; 0 for what comes in its time
+abbrev pub untimelyOf : Phase → Bool → ℕ
+untimelyOf Unopened true = 0
+untimelyOf Unopened false = beforeOpening
+untimelyOf Null true = slotInUse
+untimelyOf Null false = 0
+untimelyOf Setup true = slotInUse
+untimelyOf Setup false = 0
+untimelyOf Answered true = slotInUse
+untimelyOf Answered false = 0
+untimelyOf Cleared opening = 0
 
--- before the opening only an opening is taken, else 17; after it none is, else 18; 0 for what comes in its time
-abbrev pub untimelyOf : Bool → Bool → ℕ
-untimelyOf true true = 0
-untimelyOf true false = beforeOpening
-untimelyOf false true = openedBefore
-untimelyOf false false = 0
-
--- "17 and 18 before 3": whatever the event's fields
+-- 02 #106: "17 and 18 before 3", and #107: "20 in 18's place"; so whatever the event's fields
 abbrev pub inTime : Bool → ℕ → Call → Event → Outcome
 inTime true n c e = ifInRange (eventOk e) c e
 inTime false n c e = refusedOf n c
 
-abbrev pub ifTimely : Bool → Bool → Call → Event → Outcome
-ifTimely unopened opening c e = inTime (eqb (untimelyOf unopened opening) 0) (untimelyOf unopened opening) c e
+abbrev pub ifTimely : Phase → Bool → Call → Event → Outcome
+ifTimely phase opening c e = inTime (eqb (untimelyOf phase opening) 0) (untimelyOf phase opening) c e
 
 -- what is no call state: 9, before all else
 abbrev pub ifCall : Bool → Call → Event → Outcome
-ifCall true c e = ifTimely (isUnopened (c .stand .phase)) (isOpening e) c e
+ifCall true c e = ifTimely (c .stand .phase) (isOpening e) c e
 ifCall false c e = refusedOf notACall c
 
 abbrev pub stepOf : Call → Event → Outcome
 stepOf c e = ifCall (validOf c) c e
+
+-- never opened, or cleared
+abbrev pub mayOpen : Phase → Bool
+mayOpen Unopened = true
+mayOpen Null = false
+mayOpen Setup = false
+mayOpen Answered = false
+mayOpen Cleared = true
+
+-- a call whose slot an opening may take; 02 #107: "A slot whose call gives 9 isn't free"
+abbrev pub freeOf : Call → Bool
+freeOf c = validOf c && mayOpen (c .stand .phase)
 
 -- What goes out: something that this exchange does, with its number if it has one, or a message.
 pub data Deed : Type 0 where

@@ -1,5 +1,6 @@
 -- 01, "Calls to try": the histories marked P, as theorems about the definition; the second press of 02 #101; the totals of 02 #104; rooms
--- abroad, 02 #103; why there was no row and the first bad field, 02 #106; and calls that only a host hands in. Each computes.
+-- abroad, 02 #103; why there was no row and the first bad field, 02 #106; a freed call taken again, 02 #107; and calls that only a host
+-- hands in. Each computes.
 -- Assumes nothing.
 use Prim.Native.Nat.{ℕ, _+_}
 use mathlib.Core.Bool.{true, false}
@@ -358,9 +359,9 @@ pressed-at-set-up = refl
 abbrev idly : ℕ → Phase → Line
 idly n p = line n p Idle 0 0 0 []
 
--- before the opening, and at another one, whatever the fields; an opening with a bad field is 3
+-- before the opening 17, and at another one, in NULL, 20, whatever the fields; an opening with a bad field is 3
 in-its-time : run unopenedCall (Expiry ∷ Time 86401 ∷ Opening 0 32 room ∷ Opening 0 8 room ∷ Opening 9 99 absent ∷ Opening 1 8 room ∷ [])
-    ≡ idly 17 Unopened ∷ idly 17 Unopened ∷ idly 3 Unopened ∷ idly 0 Null ∷ idly 18 Null ∷ idly 18 Null ∷ []
+    ≡ idly 17 Unopened ∷ idly 17 Unopened ∷ idly 3 Unopened ∷ idly 0 Null ∷ idly 20 Null ∷ idly 20 Null ∷ []
 in-its-time = refl
 
 -- what an event without a row is told at an originating call in ANSWERED, IDLE
@@ -374,10 +375,39 @@ reasons : (reasonFor (Received (plain iam 0 (Absent 0))) ≡ 1) × (reasonFor (F
 reasons = (refl, refl, refl, refl, refl, refl, refl)
 
 -- a cleared call: no REV state but IDLE, so never 16
-reasons-at-the-end : run (talked 40) (FromAccess 4 0 ∷ Expiry ∷ Received (plain iam 0 (Absent 0)) ∷ Opening 0 8 room ∷ [])
+reasons-at-the-end : run (talked 40) (FromAccess 4 0 ∷ Expiry ∷ Received (plain iam 0 (Absent 0)) ∷ [])
     ≡ line 0 Cleared Idle 40 0 0 (does Stop ∷ sends (plain rel normalClearing (Absent 0)) ∷ [])
-    ∷ line 15 Cleared Idle 40 0 0 [] ∷ line 1 Cleared Idle 40 0 0 [] ∷ line 18 Cleared Idle 40 0 0 [] ∷ []
+    ∷ line 15 Cleared Idle 40 0 0 [] ∷ line 1 Cleared Idle 40 0 0 [] ∷ []
 reasons-at-the-end = refl
+
+-- ---- A freed call taken again, 02 #107
+
+-- a slot in use: in SETUP and in ANSWERED an opening is 20, also with a bad field, and the call stays
+in-use : run unopenedCall
+    (Opening 0 8 room ∷ Ask 0 room ∷ Opening 1 8 room ∷ Received (plain anm 0 (Absent 0)) ∷ Time 40 ∷ Opening 0 32 room ∷ [])
+    ≡ idly 0 Null
+    ∷ line 0 Setup Idle 0 0 0 (sends (plain iam 0 (Absent 0)) ∷ [])
+    ∷ idly 20 Setup
+    ∷ line 0 Answered Idle 0 0 0 (does ChargeCalling ∷ [])
+    ∷ line 0 Answered Idle 40 0 0 []
+    ∷ line 20 Answered Idle 40 0 0 []
+    ∷ []
+in-use = refl
+
+-- the call has cleared: an opening with a bad field is 3 and the cleared call stays; one in range starts anew, here as a destination, with no
+-- second left, and another in NULL is 20 ..
+abbrev reopened : List Event
+reopened = FromAccess 4 0 ∷ Opening 0 32 room ∷ Opening 1 8 room ∷ Opening 0 8 room ∷ []
+
+taken-again : run (talked 40) reopened
+    ≡ line 0 Cleared Idle 40 0 0 (does Stop ∷ sends (plain rel normalClearing (Absent 0)) ∷ [])
+    ∷ line 3 Cleared Idle 40 0 0 [] ∷ idly 0 Null ∷ idly 20 Null ∷ []
+taken-again = refl
+
+-- .. the total is 0 too: the call is the one that the opening makes of a call that was never opened
+nothing-left : (totalOf (after (talked 40) (FromAccess 4 0 ∷ [])) ≡ 40) × (totalOf (after (talked 40) reopened) ≡ 0)
+    × (after (talked 40) reopened ≡ stepOf unopenedCall (Opening 1 8 room) .call)
+nothing-left = (refl, refl, refl)
 
 -- "first bad field first; a number is one field"
 abbrev field : Event → ℕ

@@ -95,17 +95,17 @@ whyOf r p e = pickℕ (rowIn r p e) wrongState (pickℕ (rowEver r e) wrongPhase
 -- ---- The same in a smaller table, which is the code's: for each phase the events that have a row in one of its REV states.
 -- proofs/Classes.antt says that it is the same
 
--- before the opening
-abbrev pub unopenedHas : Kind → Cue → Bool
-unopenedHas Opens e = true
-unopenedHas Asks e = false
-unopenedHas Iam e = false
-unopenedHas Answer e = false
-unopenedHas Rel e = false
-unopenedHas Fac e = false
-unopenedHas Tells e = false
-unopenedHas Expires e = false
-unopenedHas Passes e = false
+-- before the opening, and after the clearing
+abbrev pub vacantHas : Kind → Cue → Bool
+vacantHas Opens e = true
+vacantHas Asks e = false
+vacantHas Iam e = false
+vacantHas Answer e = false
+vacantHas Rel e = false
+vacantHas Fac e = false
+vacantHas Tells e = false
+vacantHas Expires e = false
+vacantHas Passes e = false
 
 -- originating, NULL
 abbrev pub originatingNullHas : Kind → Cue → Bool
@@ -182,14 +182,14 @@ destinationAnsweredHas Expires e = true
 destinationAnsweredHas Passes e = true
 
 abbrev pub smallHas : Role → Phase → Cue → Bool
-smallHas r Unopened e = unopenedHas (e .kind) e
+smallHas r Unopened e = vacantHas (e .kind) e
 smallHas Originating Null e = originatingNullHas (e .kind) e
 smallHas Destination Null e = destinationNullHas (e .kind) e
 smallHas Originating Setup e = originatingSetupHas (e .kind) e
 smallHas Destination Setup e = destinationSetupHas (e .kind) e
 smallHas Originating Answered e = originatingAnsweredHas (e .kind) e
 smallHas Destination Answered e = destinationAnsweredHas (e .kind) e
-smallHas r Cleared e = false
+smallHas r Cleared e = vacantHas (e .kind) e
 
 abbrev pub smallEver : Role → Cue → Bool
 smallEver r e = somePhase (λ p. smallHas r p e)

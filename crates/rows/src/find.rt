@@ -1,7 +1,7 @@
 // FIND: the row for an event, by role, phase, REV state and what the event is. One table for each place that 01 allows;
 // none of them sees the call.
 ghost use mathlib.Core.Path.{_≡_};
-ghost use Rattle.rows.specs.Find.{unopenedOf, originatingNullOf, originatingSetupIdleOf, waitSetupOf, originatingWaitAnswerOf};
+ghost use Rattle.rows.specs.Find.{vacantOf, originatingNullOf, originatingSetupIdleOf, waitSetupOf, originatingWaitAnswerOf};
 ghost use Rattle.rows.specs.Find.{originatingAnsweredIdleOf, waitActiveOf, activeOf, destinationNullOf, destinationSetupIdleOf};
 ghost use Rattle.rows.specs.Find.{waitSetupConfOf, setupWaitCalledOf, destinationWaitAnswerOf, destinationAnsweredIdleOf};
 ghost use Rattle.rows.specs.Find.{waitActiveConfOf, answeredWaitCalledOf, originatingSetupOf, originatingAnsweredOf, originatingOf};
@@ -13,9 +13,9 @@ use crate::RevState;
 use crate::Role;
 use crate::Row;
 
-// before the opening.
-pub(crate) fn unopened(e: Cue) -> Row
-    ensures { λ out. ⌜ out ≡ unopenedOf (e .kind) e ⌝ }
+// before the opening, and after the clearing.
+pub(crate) fn vacant(e: Cue) -> Row
+    ensures { λ out. ⌜ out ≡ vacantOf (e .kind) e ⌝ }
 {
     let k = e.kind;
     match k {
@@ -167,7 +167,7 @@ pub(crate) fn originating_answered_idle(e: Cue) -> Row
     let h = e.heard;
     let a = e.told;
     match k {
-        Kind::Opens => Row::NoRow,
+        Kind::Opens => Row::NoRow, // the slot is in use
         Kind::Asks => if q.caseb { Row::AskActive } else { Row::NoRow },
         Kind::Iam => Row::NoRow,
         Kind::Answer => Row::NoRow,
@@ -590,11 +590,11 @@ pub(crate) fn originating(p: Phase, s: RevState, e: Cue) -> Row
     ensures { λ out. ⌜ out ≡ originatingOf p s e ⌝ }
 {
     match p {
-        Phase::Unopened => unopened(e),
+        Phase::Unopened => vacant(e),
         Phase::Null => originating_null(e),
         Phase::Setup => originating_setup(s, e),
         Phase::Answered => originating_answered(s, e),
-        Phase::Cleared => Row::NoRow,
+        Phase::Cleared => vacant(e),
     }
 }
 
@@ -635,11 +635,11 @@ pub(crate) fn destination(p: Phase, s: RevState, e: Cue) -> Row
     ensures { λ out. ⌜ out ≡ destinationOf p s e ⌝ }
 {
     match p {
-        Phase::Unopened => unopened(e),
+        Phase::Unopened => vacant(e),
         Phase::Null => destination_null(e),
         Phase::Setup => destination_setup(s, e),
         Phase::Answered => destination_answered(s, e),
-        Phase::Cleared => Row::NoRow,
+        Phase::Cleared => vacant(e),
     }
 }
 

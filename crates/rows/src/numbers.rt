@@ -17,14 +17,14 @@ pub const NOT_A_CALL: u8 = 9;
 
 pub const NOBODY_PAYS: u8 = 10;
 
-// 02 #106: why there was no row, and what is judged before the fields.
+// 02 #106 and #107: why there was no row, and what is judged before the fields.
 pub const WRONG_PHASE: u8 = 15;
 
 pub const WRONG_STATE: u8 = 16;
 
 pub const BEFORE_OPENING: u8 = 17;
 
-pub const OPENED_BEFORE: u8 = 18;
+pub const SLOT_IN_USE: u8 = 20;
 
 // 01, kind 3: messages.
 pub const IAM: u8 = 1;

@@ -913,7 +913,7 @@ pub(crate) fn plan_of(row: Row, t: Terms) -> Plan
     let correct = t.correct;
     match row {
         Row::NoRow => refuses(NO_ROW), // not asked: where there is no row, `takes` says why
-        Row::Opened => quiet(Next::ToNull, Change::Keep, Register::FromOpening), // G1
+        Row::Opened => quiet(Next::ToNull, Change::Begin, Register::FromOpening), // G1
         Row::TimeInSetup => quiet(Next::Stay, Change::Keep, Register::AsHeld), // G2
         Row::TimeCounts => quiet(Next::Stay, Change::TimePasses, Register::AsHeld), // G3
         Row::ClearedHere => stops(Act::SendRel, Component::Absent(0), NORMAL_CLEARING), // G4, O19, O39, D15, D25, D55

@@ -1,6 +1,6 @@
 // One step of a call.
 ghost use mathlib.Core.Path.{_≡_};
-ghost use Rattle.rows.specs.Step.{unopenedCall, totalOf, takesOf, ifInRange, isOpening, isUnopened, untimelyOf, stepOf};
+ghost use Rattle.rows.specs.Step.{unopenedCall, totalOf, takesOf, ifInRange, isOpening, untimelyOf, stepOf, mayOpen, freeOf};
 ghost use Rattle.rows.specs.Valid.{eventOk};
 use crate::ABSENT;
 use crate::Call;
@@ -16,7 +16,7 @@ use crate::find;
 use crate::numbers::BAD_FIELD;
 use crate::numbers::BEFORE_OPENING;
 use crate::numbers::NOT_A_CALL;
-use crate::numbers::OPENED_BEFORE;
+use crate::numbers::SLOT_IN_USE;
 use crate::read;
 use crate::rows;
 use crate::valid;
@@ -96,7 +96,7 @@ impl Call {
         }
     }
 
-    // The answer to one event, in any state and for any event: 9, then 17 or 18, then 3, then 1, 15 or 16, then 4, 10 and 2, or a row applied.
+    // The answer to one event, in any state and for any event: 9, then 17 or 20, then 3, then 1, 15 or 16, then 4, 10 and 2, or a row applied.
     pub fn step(self, e: Event) -> Outcome
         ensures { λ out. ⌜ out ≡ stepOf self e ⌝ }
     {
@@ -113,18 +113,37 @@ impl Call {
             self.refused(NOT_A_CALL)
         }
     }
+
+    // An opening may take the slot of this call: it was never opened, or it has cleared.
+    pub fn is_free(self) -> bool
+        ensures { λ out. ⌜ out ≡ freeOf self ⌝ }
+    {
+        let stand = self.stand;
+        let phase = stand.phase;
+        valid::valid(self) & may_open(phase)
+    }
 }
 
-// 17 or 18, or 0 where the event comes in its time.
+impl Outcome {
+    // The call that follows.
+    pub fn after(self) -> Call
+        ensures { λ out. ⌜ out ≡ self .call ⌝ }
+    {
+        self.call
+    }
+}
+
+// 17 or 20, or 0 where the event comes in its time.
 fn untimely(phase: Phase, e: Event) -> u8
-    ensures { λ out. ⌜ out ≡ untimelyOf (isUnopened phase) (isOpening e) ⌝ }
+    ensures { λ out. ⌜ out ≡ untimelyOf phase (isOpening e) ⌝ }
 {
-    let first = is_unopened(phase);
     let opens = is_opening(e);
-    if first {
-        if opens { 0 } else { BEFORE_OPENING }
-    } else {
-        if opens { OPENED_BEFORE } else { 0 }
+    match phase {
+        Phase::Unopened => if opens { 0 } else { BEFORE_OPENING },
+        Phase::Null => if opens { SLOT_IN_USE } else { 0 },
+        Phase::Setup => if opens { SLOT_IN_USE } else { 0 },
+        Phase::Answered => if opens { SLOT_IN_USE } else { 0 },
+        Phase::Cleared => 0,
     }
 }
 
@@ -141,14 +160,14 @@ fn is_opening(e: Event) -> bool
     }
 }
 
-fn is_unopened(phase: Phase) -> bool
-    ensures { λ out. ⌜ out ≡ isUnopened phase ⌝ }
+fn may_open(phase: Phase) -> bool
+    ensures { λ out. ⌜ out ≡ mayOpen phase ⌝ }
 {
     match phase {
         Phase::Unopened => true,
         Phase::Null => false,
         Phase::Setup => false,
         Phase::Answered => false,
-        Phase::Cleared => false,
+        Phase::Cleared => true,
     }
 }

@@ -1,7 +1,7 @@
 // WHY there was no row: asked only of an event that found none, and by tables smaller than those that find rows, for a file may be full of
 // such events.
 ghost use mathlib.Core.Path.{_≡_};
-ghost use Rattle.rows.specs.Why.{isRow, whyOf, smallHas, smallEver, unopenedHas, originatingNullHas, originatingSetupHas};
+ghost use Rattle.rows.specs.Why.{isRow, whyOf, smallHas, smallEver, vacantHas, originatingNullHas, originatingSetupHas};
 ghost use Rattle.rows.specs.Why.{originatingAnsweredHas, destinationNullHas, destinationSetupHas, destinationAnsweredHas};
 use crate::Cue;
 use crate::Kind;
@@ -64,9 +64,9 @@ pub(crate) fn is_row(row: Row) -> bool
 
 // ---- Each phase: the events that have a row in one of its REV states
 
-// before the opening.
-fn unopened_has(e: Cue) -> bool
-    ensures { λ out. ⌜ out ≡ unopenedHas (e .kind) e ⌝ }
+// before the opening, and after the clearing.
+fn vacant_has(e: Cue) -> bool
+    ensures { λ out. ⌜ out ≡ vacantHas (e .kind) e ⌝ }
 {
     let k = e.kind;
     match k {
@@ -209,7 +209,7 @@ fn has_row(r: Role, p: Phase, e: Cue) -> bool
     ensures { λ out. ⌜ out ≡ smallHas r p e ⌝ }
 {
     match p {
-        Phase::Unopened => unopened_has(e),
+        Phase::Unopened => vacant_has(e),
         Phase::Null => match r {
             Role::Originating => originating_null_has(e),
             Role::Destination => destination_null_has(e),
@@ -222,7 +222,7 @@ fn has_row(r: Role, p: Phase, e: Cue) -> bool
             Role::Originating => originating_answered_has(e),
             Role::Destination => destination_answered_has(e),
         },
-        Phase::Cleared => false,
+        Phase::Cleared => vacant_has(e),
     }
 }
 

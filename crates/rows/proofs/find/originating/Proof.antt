@@ -7,8 +7,9 @@ originating-spec =
     tie.close
     (tie.spec
     (λ c. search needs) (λ c. λ κs. search needs) (λ c. search needs) (λ c. λ κs. search needs) (λ c. search needs)
-    (λ c. λ κs. search needs) (λ c. search needs) (λ c. λ κs. search needs) (λ c. search needs)
-    (λ c. simp (c .unopened .ensures, c .before .enum-told .given .1))
+    (λ c. λ κs. search needs) (λ c. search needs) (λ c. λ κs. search needs) (λ c. search needs) (λ c. λ κs. search needs)
+    (λ c. simp (c .vacant .ensures, c .before .enum-told .given .1))
     (λ c. simp (c .originating-null .ensures, c .before .enum-told2 .given .1))
     (λ c. simp (c .originating-setup .ensures, c .before .enum-told3 .given .1))
-    (λ c. simp (c .originating-answered .ensures, c .before .enum-told4 .given .1)) (λ c. simp (c .enum-told5 .given .1)))
+    (λ c. simp (c .originating-answered .ensures, c .before .enum-told4 .given .1))
+    (λ c. simp (c .vacant2 .ensures, c .before .enum-told5 .given .1)))
