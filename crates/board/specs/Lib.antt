@@ -1,0 +1,4 @@
+pub mod Numbers
+pub mod Promises
+pub mod Row
+pub mod Tried
