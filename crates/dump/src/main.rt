@@ -2,8 +2,9 @@
 use libc::STDIN_FILENO;
 use libc::STDOUT_FILENO;
 
-// Room for the dump of every file. A message of 9 bytes has the most text for its bytes: 93, with an ordinal of five digits. So the lines
-// of 65,536 bytes have at most 65,536 / 9 * 93 = 677,206; the first line, and one of a record that cannot be read, have 14 and 25.
+// Room for the dump of every file. A message of 9 bytes has the most text for its bytes: 93, with an ordinal of five digits; a slot is 6
+// bytes more and at most 11 of text. So the lines of 65,536 bytes have at most 65,536 / 9 * 93 = 677,206; the first line, and one of a
+// record that cannot be read, have 14 and 25.
 // (A function of its own: of an array that main makes, a proof would count the elements.)
 fn room() -> [u8; 1048576] {
     [0u8; 1048576]

@@ -2,16 +2,17 @@
 -- Assumes nothing.
 use mathlib.Core.Path.{_≡_, refl, sym, ap, ap₂, subst, _∙_}
 use mathlib.Core.List.{List, [], _∷_, _++_, append-assoc}
-use mathlib.Core.Bool.{Bool, true, false, _&&_, _||_}
+use mathlib.Core.Logic.{_↔_}
+use mathlib.Core.Bool.{Bool, true, false, _||_}
 use Prim.Native.Nat.{ℕ, zero, suc, _+_, _-_, _*_, _^_, _≤_, _<_}
 use native.Mathlib.Nat.{zero-add}
 use native.Mathlib.Omega.{arith}
 use lib.Dec.{eqb, leb}
 use lib.ListN.{length, getD, take, drop, length-append, take-append-drop, drop-of-length-le}
-use lib.Seq.{drop-drop}
+use lib.Seq.{drop-drop, take-add}
 use borrow.Author.Tests.{eqb-true}
 use Rattle.text.specs.Choose.{ifEq, ifSo}
-use Rattle.text.proofs.Cases.{no-lt, yes-eq, no-eq, yes-le, no-le, both-lt, both-le, both-eq}
+use Rattle.text.proofs.Cases.{no-lt, yes-eq, no-eq, yes-le, no-le, both-le, both-eq}
 use Rattle.rows.specs.Read.{bit}
 use Rattle.rows.specs.Valid.{numberThere, codeOk, eventOk}
 use Rattle.rows.specs.Valid.{numberIf as numberOk}
@@ -25,17 +26,20 @@ use Rattle.rows.proofs.Ranges.{message-in-range}
 use Rattle.rows.proofs.Truth.{left, right, differ}
 use Rattle.files.specs.Bytes.{byteAt, leAt, leOf, part}
 use Rattle.files.specs.Fields.{openingFields, askFields, messageFields, sizeOf, valuesAt, bytesOf}
-use Rattle.files.specs.Frames.{lengthWith, lengthOf, frameOf, frameAt}
-use Rattle.files.specs.Bodies.{countOf, countByte, numberBy, componentOf, codeOf, itemOf, kindOf, fieldsOf, valuesOf, headOf, recordOf, eventAt, readBy, readAt}
+use Rattle.files.specs.Frames.{lengthWith, lengthOf, slottedKind, plainOf, plainFrame, outerOf, inSlot, frameAt}
+use Rattle.files.specs.Bodies.{countOf, countByte, numberBy, componentOf, codeOf, itemOf, kindOf, fieldsOf, valuesOf, headOf, recordOf, eventAt}
+use Rattle.files.specs.Bodies.{slotHead, slottedOf, entryOf, bodyAt, readBy, readAt, plainAt}
 use Rattle.files.specs.Bodies.{openingFrom, askFrom, messageFrom, accessFrom, timeFrom, openingAt, askAt, messageAt, accessAt, timeAt}
-use Rattle.files.specs.Typed.{AllBytes, TypedNumber, Typed, fileOf, Writable}
+use Rattle.files.specs.Typed.{AllBytes, TypedNumber, Typed, TypedWhere, Entry, fileOf, Writable}
 use Rattle.files.specs.Write.{natureWith, numberWith, messageWith}
-use Rattle.files.specs.Shown.{whole, Contents, andThen, contentsFrom, contentsOf, eventsOf}
+use Rattle.files.specs.Shown.{whole, Contents, andThen, contentsFrom, contentsOf, entriesOf}
 use Rattle.files.specs.declared.Frame.{Frame}
 use Rattle.files.specs.declared.Read.{Read}
+use Rattle.files.specs.declared.Where.{Where}
+use Rattle.files.specs.declared.Where.the-variants.{Plain, Slot}
 use Rattle.files.proofs.CountByte.{count-typed, byte-again, number-again, there-small, named-small, there-byte, named-byte, absent-byte}
-use Rattle.files.proofs.Records.{le-one}
-use Rattle.files.proofs.Stored.{Fits, Holds, holds-between, le-within, fields-length, fields-back, fields-again, fields-bytes}
+use Rattle.files.proofs.Records.{le-one, plain-ways, frame-ways, slotted-in, frame-slotted, frame-plain, by-body, read-as, plain-read-as}
+use Rattle.files.proofs.Stored.{Fits, Holds, holds-left, holds-right, holds-between, le-within, fields-length, fields-back, fields-again, bytes-join, fields-bytes}
 
 -- ---- its values have room in its fields
 
@@ -164,15 +168,15 @@ want-back s b Expiry v = refl
 want-back s b (Time seconds) v = refl
 
 frame-back : (n at len kind want next : ℕ) → 2 ≤ len → len ≤ 29 → want ≡ len → next ≡ at + 2 + len → next ≤ n
-    → frameOf n at len kind want ≡ Frame.Body kind next
-unfolding frameOf
+    → plainOf n at len kind want ≡ Frame.Body Plain kind next
+unfolding plainOf
 frame-back n at len kind want next g h e f l =
     sym (no-lt _ _ _ _ _ (omega arith)
     (no-lt _ _ _ _ _ g
     (no-lt _ _ _ _ _ h
     (no-lt _ _ _ _ _ (omega arith)
     (no-eq _ _ _ _ _ (λ z. omega arith)
-    (yes-eq _ _ _ _ _ (sym e) (ap (Frame.Body kind) f)))))))
+    (yes-eq _ _ _ _ _ (sym e) (ap (Frame.Body Plain kind) f)))))))
 
 kind-small : (e : Event) → kindOf e < 256 ^ 2
 kind-small (Opening role flags own) = omega arith
@@ -204,8 +208,8 @@ module _ (s : List ℕ) (at : ℕ) (e : Event) (k : eventOk e ≡ true) (t : Typ
       let p : at + 2 + 2 ≡ at + 4 = omega arith in
       sym (ap (λ (i : ℕ). valuesAt s i (fieldsOf e)) p) ∙ ap (drop 2) all-read
 
-  frame-read : at + length (recordOf e) ≤ length s → frameAt s at ≡ Frame.Body (kindOf e) (at + length (recordOf e))
-  unfolding frameAt
+  frame-read : at + length (recordOf e) ≤ length s → plainFrame s at ≡ Frame.Body Plain (kindOf e) (at + length (recordOf e))
+  unfolding plainFrame
   frame-read h =
       let l = body-length e in
       let r = record-length e in
@@ -216,25 +220,161 @@ module _ (s : List ℕ) (at : ℕ) (e : Event) (k : eventOk e ≡ true) (t : Typ
       (frame-back (length s) at (lengthWith (fieldsOf e)) (kindOf e) _ (at + length (recordOf e))
       (omega arith) (omega arith) w (omega arith) h)
 
-  pub record-read : at + length (recordOf e) ≤ length s → readAt s at ≡ Read.Got e (at + length (recordOf e))
-  unfolding readAt
+  record-read : at + length (recordOf e) ≤ length s → plainAt s at ≡ Read.Got Plain e (at + length (recordOf e))
+  unfolding plainAt
   record-read h =
       let r = record-length e in
       sym (no-le _ _ _ _ _ (omega arith) (sym (ap (readBy s at) (frame-read h)
-      ∙ ap (λ (x : Event). Read.Got x (at + length (recordOf e))) (event-back s (at + 4) e k values-read))))
+      ∙ ap (λ (x : Event). Read.Got Plain x (at + length (recordOf e))) (event-back s (at + 4) e k values-read))))
 
--- whatever stands before and after it
-read-between : (e : Event) → eventOk e ≡ true → Typed e → (p q : List ℕ)
-    → readAt (p ++ recordOf e ++ q) (length p) ≡ Read.Got e (length p + length (recordOf e))
-read-between e k t p q =
-    let l = length-append (p ++ recordOf e) q in
-    let m = length-append p (recordOf e) in
-    record-read (p ++ recordOf e ++ q) (length p) e k t (holds-between p (recordOf e) q) (omega arith)
+-- ---- the kind of a record and its length; what a plain reading and a reading of any kind have to do with each other
+
+unknown-length : (kind parts : ℕ) → 6 < kind → lengthOf kind parts ≡ 0
+unfolding lengthOf
+unknown-length kind parts h =
+    sym (no-eq _ _ _ _ _ (λ e. omega arith)
+    (no-eq _ _ _ _ _ (λ e. omega arith)
+    (no-eq _ _ _ _ _ (λ e. omega arith)
+    (no-eq _ _ _ _ _ (λ e. omega arith)
+    (no-eq _ _ _ _ _ (λ e. omega arith)
+    (no-eq _ _ _ _ _ (λ e. omega arith) refl))))))
+
+-- what led to a plain frame; its kind is one of six, and not 7
+abbrev PlainFacts : List ℕ → ℕ → Frame → Type 0
+PlainFacts s at (Frame.Stop n) = Unit {0}
+PlainFacts s at (Frame.Body w kind next) =
+    (w ≡ Plain) × (2 ≤ leAt 2 s at) × (leAt 2 s at ≤ 29) × (next ≡ at + 2 + leAt 2 s at) × (next ≤ length s) × (leAt 2 s (at + 2) ≡ slottedKind → ⊥)
+
+plain-facts : (s : List ℕ) (at : ℕ) → PlainFacts s at (plainFrame s at)
+unfolding plainFrame
+plain-facts s at =
+    plain-ways _ at _ _ _ (PlainFacts s at) tt tt tt
+    (λ a b c z e. (refl, a, b, refl, c, λ k. z (unknown-length (leAt 2 s (at + 2)) (byteAt s (at + 8)) (omega arith))))
+
+facts-of : (s : List ℕ) (at kind next : ℕ) (w : Where) → plainFrame s at ≡ Frame.Body w kind next → PlainFacts s at (Frame.Body w kind next)
+facts-of s at kind next w f = subst (PlainFacts s at) f (plain-facts s at)
+
+-- the frame of what was read, and the event of its body
+abbrev ReadParts : List ℕ → ℕ → Frame → Read → Type 0
+ReadParts s at f Read.End = Unit {0}
+ReadParts s at f (Read.Stop n) = Unit {0}
+ReadParts s at f (Read.Got w e next) = (kind : ℕ) × (at < length s) × (f ≡ Frame.Body w kind next) × (e ≡ eventAt s (bodyAt w at) kind)
+
+parts-by : (s : List ℕ) (at : ℕ) (f : Frame) → at < length s → ReadParts s at f (readBy s at f)
+parts-by s at (Frame.Stop n) l = tt
+parts-by s at (Frame.Body w kind next) l = (kind, l, refl, refl)
+
+any-parts : (s : List ℕ) (at next : ℕ) (w : Where) (e : Event) → readAt s at ≡ Read.Got w e next → ReadParts s at (frameAt s at) (Read.Got w e next)
+unfolding readAt
+any-parts s at next w e r = subst P r (both-le _ _ P _ _ (λ _. tt) (λ l. parts-by s at (frameAt s at) l))
+  where
+    P : Read → Type 0
+    P = ReadParts s at (frameAt s at)
+
+plain-parts : (s : List ℕ) (at next : ℕ) (w : Where) (e : Event) → plainAt s at ≡ Read.Got w e next
+    → ReadParts s at (plainFrame s at) (Read.Got w e next)
+unfolding plainAt
+plain-parts s at next w e r = subst P r (both-le _ _ P _ _ (λ _. tt) (λ l. parts-by s at (plainFrame s at) l))
+  where
+    P : Read → Type 0
+    P = ReadParts s at (plainFrame s at)
+
+pub plain-acts : (s : List ℕ) (at next : ℕ) (w : Where) (e : Event) → plainAt s at ≡ Read.Got w e next → w ≡ Plain
+plain-acts s at next w e r =
+    let (kind, l, f, v) = plain-parts s at next w e r in
+    facts-of s at kind next w f .0
+
+-- a plain reading is a reading
+pub plain-is-read : (s : List ℕ) (at next : ℕ) (w : Where) (e : Event) → plainAt s at ≡ Read.Got w e next → readAt s at ≡ Read.Got w e next
+plain-is-read s at next w e r =
+    let (kind, l, f, v) = plain-parts s at next w e r in
+    let (p, a, b, n, c, k) = facts-of s at kind next w f in
+    sym (read-as s at (Frame.Body w kind next) (Read.Got w e next) l
+    (frame-plain s at (leAt 2 s (at + 2)) (Frame.Body w kind next) (omega arith) refl k (sym f))
+    (by-body s at kind next (bodyAt w at) w (Frame.Body w kind next) e refl refl v))
+
+-- the six bytes before a record that stands inside one of kind 7: its length, its kind and its slot
+pub record Headed (s : List ℕ) (at i : ℕ) : Type 0 where
+  pub kind : leAt 2 s (at + 2) ≡ slottedKind
+  pub slot : leAt 2 s (at + 4) ≡ i
+  pub filled : leAt 2 s (at + 6) + 6 ≡ leAt 2 s at
+
+outer-passes : (n at len inner : ℕ) → 8 ≤ len → len ≤ 35 → at + 2 + len ≤ n → inner + 6 ≡ len → 0 ≡ outerOf n at len inner
+unfolding outerOf
+outer-passes n at len inner a b c d =
+    no-lt _ _ _ _ _ (omega arith)
+    (no-lt _ _ _ _ _ b
+    (no-lt _ _ _ _ _ c
+    (no-lt _ _ _ _ _ a
+    (yes-eq _ _ _ _ _ d refl))))
+
+-- and a plain reading behind such six bytes is a reading at the slot that they name
+pub slotted-is-read : (s : List ℕ) (at i next : ℕ) (w : Where) (e : Event) → Headed s at i → plainAt s (at + 6) ≡ Read.Got w e next
+    → readAt s at ≡ Read.Got (Slot i) e next
+slotted-is-read s at i next w e h r =
+    let (kind, l, f, v) = plain-parts s (at + 6) next w e r in
+    let (p, a, b, n, c, k) = facts-of s (at + 6) kind next w f in
+    let g = h .filled in
+    let body : bodyAt Plain (at + 6) ≡ at + 10 = omega arith in
+    let v′ : e ≡ eventAt s (at + 10) kind = v ∙ ap (λ (x : Where). eventAt s (bodyAt x (at + 6)) kind) p ∙ ap (λ (b : ℕ). eventAt s b kind) body in
+    let o : 0 ≡ outerOf (length s) at (leAt 2 s at) (leAt 2 s (at + 6)) = outer-passes (length s) at (leAt 2 s at) (leAt 2 s (at + 6)) (omega arith) (omega arith) (omega arith) g in
+    sym (read-as s at (Frame.Body (Slot i) kind next) (Read.Got (Slot i) e next) (omega arith)
+    (frame-slotted s at slottedKind (Frame.Body (Slot i) kind next) (omega arith) (sym (h .kind)) refl
+    (slotted-in s at (leAt 2 s at) (leAt 2 s (at + 6)) 0 refl refl o refl i (Frame.Body w kind next) (Frame.Body (Slot i) kind next) (sym (h .slot)) (sym f) refl))
+    (by-body s at kind next (at + 10) (Slot i) (Frame.Body (Slot i) kind next) e refl refl v′))
+
+-- nothing else is read: every reading is one of these two. The event e was found at a place, plain or at a slot
+abbrev pub FoundIn : List ℕ → ℕ → Where → Event → ℕ → Type 0
+FoundIn s at Plain e next = plainAt s at ≡ Read.Got Plain e next
+FoundIn s at (Slot i) e next = Headed s at i × (plainAt s (at + 6) ≡ Read.Got Plain e next)
+
+abbrev FramedIn : List ℕ → ℕ → Frame → Type 0
+FramedIn s at (Frame.Stop n) = Unit {0}
+FramedIn s at (Frame.Body Plain kind next) = plainFrame s at ≡ Frame.Body Plain kind next
+FramedIn s at (Frame.Body (Slot i) kind next) = Headed s at i × (plainFrame s (at + 6) ≡ Frame.Body Plain kind next)
+
+framed-plain : (s : List ℕ) (at : ℕ) (f : Frame) → plainFrame s at ≡ f → FramedIn s at f
+framed-plain s at (Frame.Stop n) e = tt
+framed-plain s at (Frame.Body Plain kind next) e = e
+framed-plain s at (Frame.Body (Slot i) kind next) e = let p = facts-of s at kind next (Slot i) e .0 in let z : false ≡ true = cc in differ z
+
+framed-inside : (s : List ℕ) (at i : ℕ) (f : Frame) → Headed s at i → plainFrame s (at + 6) ≡ f → FramedIn s at (inSlot i f)
+framed-inside s at i (Frame.Stop n) h e = tt
+framed-inside s at i (Frame.Body w kind next) h e =
+    (h, e ∙ ap (λ (x : Where). Frame.Body x kind next) (facts-of s (at + 6) kind next w e .0))
+
+framed : (s : List ℕ) (at : ℕ) → FramedIn s at (frameAt s at)
+framed s at =
+    frame-ways s at (FramedIn s at) tt tt tt (λ _ _. framed-plain s at (plainFrame s at) refl)
+    (λ _ k _ _ _ g.
+    framed-inside s at (leAt 2 s (at + 4)) (plainFrame s (at + 6)) (record { kind = k; slot = refl; filled = g }) refl)
+
+found-framed : (s : List ℕ) (at kind next : ℕ) (w : Where) (e : Event) → at < length s → FramedIn s at (Frame.Body w kind next)
+    → e ≡ eventAt s (bodyAt w at) kind → FoundIn s at w e next
+found-framed s at kind next Plain e l f v =
+    sym (plain-read-as s at (Frame.Body Plain kind next) (Read.Got Plain e next) l (sym f)
+    (by-body s at kind next (at + 4) Plain (Frame.Body Plain kind next) e refl refl v))
+found-framed s at kind next (Slot i) e l (h, f) v =
+    let (p, a, b, n, c, k) = facts-of s (at + 6) kind next Plain f in
+    let body : at + 10 ≡ at + 6 + 4 = omega arith in (
+      h,
+      sym (plain-read-as s (at + 6) (Frame.Body Plain kind next) (Read.Got Plain e next) (omega arith) (sym f)
+          (by-body s (at + 6) kind next (at + 6 + 4) Plain (Frame.Body Plain kind next) e refl refl (v ∙ ap (λ (b : ℕ). eventAt s b kind) body))),
+    )
+
+pub read-is-found : (s : List ℕ) (at next : ℕ) (w : Where) (e : Event) → readAt s at ≡ Read.Got w e next → FoundIn s at w e next
+read-is-found s at next w e r =
+    let (kind, l, f, v) = any-parts s at next w e r in
+    found-framed s at kind next w e l (subst (FramedIn s at) f (framed s at)) v
+
+found-is-read : (w : Where) (s : List ℕ) (at next : ℕ) (e : Event) → FoundIn s at w e next → readAt s at ≡ Read.Got w e next
+found-is-read Plain s at next e r = plain-is-read s at next Plain e r
+found-is-read (Slot i) s at next e (h, r) = slotted-is-read s at i next Plain e h r
 
 -- ---- what is read is what stands there
 
 -- the record of e is the bytes of s from at on, and ends at next
-abbrev Stands : List ℕ → ℕ → Event → ℕ → Type 0
+abbrev pub Stands : List ℕ → ℕ → Event → ℕ → Type 0
 Stands s at e next = (recordOf e ≡ take (next - at) (drop at s)) × (next ≡ at + length (recordOf e))
 
 code-again : (code n : ℕ) → codeOf (componentOf code n) ≡ code
@@ -308,16 +448,6 @@ module _ (s : List ℕ) (at : ℕ) (a : AllBytes s) (l : at + 2 + leAt 2 s at �
       stands (Received (messageAt s (at + 4))) (f ∙ ap (λ (n : ℕ). lengthWith (messageFields n)) (sym q)) g
       (message-again s (at + 4) a ∙ ap (λ (n : ℕ). valuesAt s (at + 4) (messageFields n)) (sym (parts-again s (at + 4))))
 
-unknown-length : (kind parts : ℕ) → 6 < kind → lengthOf kind parts ≡ 0
-unfolding lengthOf
-unknown-length kind parts h =
-    sym (no-eq _ _ _ _ _ (λ e. omega arith)
-    (no-eq _ _ _ _ _ (λ e. omega arith)
-    (no-eq _ _ _ _ _ (λ e. omega arith)
-    (no-eq _ _ _ _ _ (λ e. omega arith)
-    (no-eq _ _ _ _ _ (λ e. omega arith)
-    (no-eq _ _ _ _ _ (λ e. omega arith) refl))))))
-
 by-kind : (s : List ℕ) (at : ℕ) → AllBytes s → at + 2 + leAt 2 s at ≤ length s → (kind : ℕ) → leAt 2 s (at + 2) ≡ kind
     → (lengthOf kind (byteAt s (at + 8)) ≡ 0 → ⊥) → leAt 2 s at ≡ lengthOf kind (byteAt s (at + 8))
     → Stands s at (eventAt s (at + 4) kind) (at + 2 + leAt 2 s at)
@@ -334,31 +464,132 @@ by-kind s at a l (suc (suc (suc (suc (suc (suc (suc k))))))) g z f =
 
 abbrev FrameStands : List ℕ → ℕ → Frame → Type 0
 FrameStands s at (Frame.Stop n) = Unit {0}
-FrameStands s at (Frame.Body kind next) = Stands s at (eventAt s (at + 4) kind) next
+FrameStands s at (Frame.Body w kind next) = Stands s at (eventAt s (at + 4) kind) next
+
+plain-frame-stands : (s : List ℕ) (at : ℕ) → AllBytes s → FrameStands s at (plainFrame s at)
+unfolding plainFrame
+plain-frame-stands s at a =
+    plain-ways _ at _ _ _ (FrameStands s at) tt tt tt (λ _ _ l z f. by-kind s at a l (leAt 2 s (at + 2)) refl z f)
+
+pub plain-stands : (s : List ℕ) (at next : ℕ) (e : Event) → AllBytes s → plainAt s at ≡ Read.Got Plain e next → Stands s at e next
+plain-stands s at next e a r =
+    let (kind, l, f, v) = plain-parts s at next Plain e r in
+    subst (λ (x : Event). Stands s at x next) (sym v) (subst (FrameStands s at) f (plain-frame-stands s at a))
+
+-- ---- a record of kind 7 is six bytes and a plain record
+
+slot-head-as : (n i : ℕ) → slotHead n i ≡ bytesOf (2 ∷ 2 ∷ 2 ∷ []) ((n + 4) ∷ slottedKind ∷ i ∷ [])
+unfolding slotHead headOf bytesOf leOf
+slot-head-as n i = refl
+
+pub slot-head-length : (n i : ℕ) → length (slotHead n i) ≡ 6
+unfolding slotHead headOf leOf
+slot-head-length n i = refl
+
+pub slotted-length : (i : ℕ) (inner : List ℕ) → length (slottedOf i inner) ≡ length inner + 6
+unfolding slottedOf
+slotted-length i inner = length-append (slotHead (length inner) i) inner ∙ omega (arith, slot-head-length (length inner) i)
+
+-- where these bytes stand, they are read, and the plain record behind them
+module _ (s : List ℕ) (at i : ℕ) (e : Event) (k : eventOk e ≡ true) (t : Typed e) (w : TypedWhere (Slot i)) (f : Holds s at (slottedOf i (recordOf e))) where
+  inner-stands : Holds s (at + 6) (recordOf e)
+  unfolding slottedOf
+  inner-stands =
+      subst (λ (n : ℕ). Holds s (at + n) (recordOf e)) (slot-head-length (length (recordOf e)) i)
+      (holds-right s at (slotHead (length (recordOf e)) i) (recordOf e) f)
+
+  head-read : valuesAt s at (2 ∷ 2 ∷ 2 ∷ []) ≡ (length (recordOf e) + 4) ∷ slottedKind ∷ i ∷ []
+  unfolding slottedOf
+  head-read =
+      let l = body-length e in
+      let r = record-length e in
+      fields-back (2 ∷ 2 ∷ 2 ∷ []) ((length (recordOf e) + 4) ∷ slottedKind ∷ i ∷ []) s at (omega arith, (omega arith, (w, tt)))
+      (subst (Holds s at) (slot-head-as (length (recordOf e)) i) (holds-left s at (slotHead (length (recordOf e)) i) (recordOf e) f))
+
+  headed : Headed s at i
+  unfolding valuesAt
+  headed =
+      let p : at + 2 + 2 ≡ at + 4 = omega arith in
+      let r = record-length e in
+      let l : leAt 2 s (at + 6) ≡ lengthWith (fieldsOf e) = length-read s (at + 6) e k t inner-stands in
+      let n : leAt 2 s at ≡ length (recordOf e) + 4 = ap (λ (vs : List ℕ). getD vs 0 0) head-read in
+      record {
+        kind = ap (λ (vs : List ℕ). getD vs 1 0) head-read;
+        slot = ap (leAt 2 s) (sym p) ∙ ap (λ (vs : List ℕ). getD vs 2 0) head-read;
+        filled = omega arith;
+      }
+
+  slotted-read : at + length (slottedOf i (recordOf e)) ≤ length s
+      → readAt s at ≡ Read.Got (Slot i) e (at + length (slottedOf i (recordOf e)))
+  slotted-read h =
+      let l = slotted-length i (recordOf e) in
+      let n : at + 6 + length (recordOf e) ≡ at + length (slottedOf i (recordOf e)) = omega arith in
+      slotted-is-read s at i _ Plain e headed
+      (record-read s (at + 6) e k t inner-stands (omega arith) ∙ ap (Read.Got Plain e) n)
+
+entry-read : (w : Where) (s : List ℕ) (at : ℕ) (e : Event) → eventOk e ≡ true → Typed e → TypedWhere w → Holds s at (entryOf w e)
+    → at + length (entryOf w e) ≤ length s → readAt s at ≡ Read.Got w e (at + length (entryOf w e))
+entry-read Plain s at e k t w f h = plain-is-read s at _ Plain e (record-read s at e k t f h)
+entry-read (Slot i) s at e k t w f h = slotted-read s at i e k t w f h
+
+-- the record of e at w is the bytes of s from at on, and ends at next
+abbrev EntryStands : List ℕ → ℕ → Where → Event → ℕ → Type 0
+EntryStands s at w e next = (entryOf w e ≡ take (next - at) (drop at s)) × (next ≡ at + length (entryOf w e))
+
+head-stands : (s : List ℕ) (at i n : ℕ) → AllBytes s → at + 6 ≤ length s → Headed s at i → n + 4 ≡ leAt 2 s at → slotHead n i ≡ take 6 (drop at s)
+unfolding valuesAt sizeOf
+head-stands s at i n a l h e =
+    let p : at + 2 + 2 ≡ at + 4 = omega arith in
+    let v : (n + 4) ∷ slottedKind ∷ i ∷ [] ≡ valuesAt s at (2 ∷ 2 ∷ 2 ∷ []) = rw (p, e, h .kind, h .slot) in
+    slot-head-as n i ∙ ap (bytesOf (2 ∷ 2 ∷ 2 ∷ [])) v ∙ fields-again (2 ∷ 2 ∷ 2 ∷ []) s at a l
+
+found-stands : (w : Where) (s : List ℕ) (at next : ℕ) (e : Event) → AllBytes s → FoundIn s at w e next → EntryStands s at w e next
+unfolding slottedOf
+found-stands Plain s at next e a r = plain-stands s at next e a r
+found-stands (Slot i) s at next e a (h, r) =
+    let (t, g) = plain-stands s (at + 6) next e a r in
+    let (kind, l, f, v) = plain-parts s (at + 6) next Plain e r in
+    let (p, x, y, n, c, k) = facts-of s (at + 6) kind next Plain f in
+    let o = h .filled in
+    let m : 6 + (next - (at + 6)) ≡ next - at = omega arith in
+    let u : length (recordOf e) + 4 ≡ leAt 2 s at = omega arith in
+    let z = slotted-length i (recordOf e) in (
+      ap₂ (λ (a b : List ℕ). a ++ b) (head-stands s at i (length (recordOf e)) a (omega arith) h u)
+          (t ∙ ap (take (next - (at + 6))) (sym (drop-drop 6 at s)))
+          ∙ sym (take-add 6 (next - (at + 6)) (drop at s)) ∙ ap (λ (j : ℕ). take j (drop at s)) m,
+      omega arith,
+    )
 
 abbrev ReadStands : List ℕ → ℕ → Read → Type 0
 ReadStands s at Read.End = length s ≤ at
 ReadStands s at (Read.Stop n) = Unit {0}
-ReadStands s at (Read.Got e next) = Stands s at e next
+ReadStands s at (Read.Got w e next) = EntryStands s at w e next
 
-frame-stands : (s : List ℕ) (at : ℕ) → AllBytes s → FrameStands s at (frameAt s at)
-unfolding frameAt frameOf
-frame-stands s at a =
-    let P : Frame → Type 0 = FrameStands s at in
-    both-lt _ _ P _ _ (λ _. tt) λ _.
-    both-lt _ _ P _ _ (λ _. tt) λ _.
-    both-lt _ _ P _ _ (λ _. tt) λ _.
-    both-lt _ _ P _ _ (λ _. tt) λ l.
-    both-eq _ _ P _ _ (λ _. tt) λ z.
-    both-eq _ _ P _ _ (λ f. by-kind s at a l (leAt 2 s (at + 2)) refl z f) (λ _. tt)
+stands-by : (s : List ℕ) (at : ℕ) → AllBytes s → (r : Read) → readAt s at ≡ r → (r ≡ Read.End → length s ≤ at) → ReadStands s at r
+stands-by s at a Read.End e f = f refl
+stands-by s at a (Read.Stop n) e f = tt
+stands-by s at a (Read.Got w x next) e f = found-stands w s at next x a (read-is-found s at next w x e)
 
-by-frame : (s : List ℕ) (at : ℕ) (f : Frame) → FrameStands s at f → ReadStands s at (readBy s at f)
-by-frame s at (Frame.Stop n) h = tt
-by-frame s at (Frame.Body kind next) h = h
+never-ends : (s : List ℕ) (at : ℕ) (f : Frame) → readBy s at f ≡ Read.End → ⊥
+never-ends s at (Frame.Stop n) e = let z : false ≡ true = cc in differ z
+never-ends s at (Frame.Body w kind next) e = let z : false ≡ true = cc in differ z
+
+ends-past : (s : List ℕ) (at : ℕ) → readAt s at ≡ Read.End → length s ≤ at
+unfolding readAt
+ends-past s at =
+    both-le _ _ (λ (r : Read). r ≡ Read.End → length s ≤ at) _ _ (λ l _. l) (λ _ e. absurd (never-ends s at (frameAt s at) e))
+
+pub plain-ends-past : (s : List ℕ) (at : ℕ) → plainAt s at ≡ Read.End → length s ≤ at
+unfolding plainAt
+plain-ends-past s at =
+    both-le _ _ (λ (r : Read). r ≡ Read.End → length s ≤ at) _ _ (λ l _. l) (λ _ e. absurd (never-ends s at (plainFrame s at) e))
+
+pub plain-past-end : (s : List ℕ) (at : ℕ) → length s ≤ at → plainAt s at ≡ Read.End
+unfolding plainAt
+plain-past-end s at h = sym (yes-le _ _ _ _ _ h refl)
 
 read-stands : (s : List ℕ) (at : ℕ) → AllBytes s → ReadStands s at (readAt s at)
-unfolding readAt
-read-stands s at a = both-le _ _ (ReadStands s at) _ _ (λ h. h) (λ _. by-frame s at (frameAt s at) (frame-stands s at a))
+read-stands s at a = stands-by s at a (readAt s at) refl (ends-past s at)
 
 -- ---- an event that is read of bytes has numbers of their types
 
@@ -396,59 +627,71 @@ module _ (s : List ℕ) (a : AllBytes s) where
       both-eq kind 5 Typed _ _ (λ _. tt) λ _.
       le-within 4 4 s b (omega arith) a
 
-abbrev ReadTyped : Read → Type 0
-ReadTyped Read.End = Unit {0}
-ReadTyped (Read.Stop n) = Unit {0}
-ReadTyped (Read.Got e next) = Typed e
+pub plain-typed : (s : List ℕ) → AllBytes s → (at next : ℕ) (e : Event) → plainAt s at ≡ Read.Got Plain e next → Typed e
+plain-typed s a at next e r =
+    let (kind, l, f, v) = plain-parts s at next Plain e r in
+    subst Typed (sym v) (event-typed s a (at + 4) kind)
 
-frame-typed : (s : List ℕ) (at : ℕ) → AllBytes s → (f : Frame) → ReadTyped (readBy s at f)
-frame-typed s at a (Frame.Stop n) = tt
-frame-typed s at a (Frame.Body kind next) = event-typed s a (at + 4) kind
+found-typed : (w : Where) (s : List ℕ) → AllBytes s → (at next : ℕ) (e : Event) → FoundIn s at w e next → Typed e × TypedWhere w
+found-typed Plain s a at next e r = (plain-typed s a at next e r, tt)
+found-typed (Slot i) s a at next e (h, r) =
+    let l : leAt 2 s (at + 4) < 2 ^ 16 = le-within 2 2 s (at + 4) (omega arith) a in
+    (plain-typed s a (at + 6) next e r, subst (λ (n : ℕ). n < 2 ^ 16) (h .slot) l)
 
-found-typed : (s : List ℕ) (at : ℕ) → AllBytes s → ReadTyped (readAt s at)
-unfolding readAt
-found-typed s at a = both-le _ _ ReadTyped _ _ (λ _. tt) (λ _. frame-typed s at a (frameAt s at))
-
--- ---- a file of events is read record by record
+-- ---- a file of entries is read record by record
 
 past-last : (s : List ℕ) (at : ℕ) → length s ≤ at → readAt s at ≡ Read.End
 unfolding readAt
 past-last s at h = sym (yes-le _ _ _ _ _ h refl)
 
+some-bytes : (w : Where) (e : Event) → 4 ≤ length (entryOf w e)
+some-bytes Plain e = omega (arith, record-length e)
+some-bytes (Slot i) e = let r = record-length e in omega (arith, slotted-length i (recordOf e))
+
+-- whatever stands before and after it
+read-between : (w : Where) (e : Event) → eventOk e ≡ true → Typed e → TypedWhere w → (p q : List ℕ)
+    → readAt (p ++ entryOf w e ++ q) (length p) ≡ Read.Got w e (length p + length (entryOf w e))
+read-between w e k t u p q =
+    let l = length-append (p ++ entryOf w e) q in
+    let m = length-append p (entryOf w e) in
+    entry-read w (p ++ entryOf w e ++ q) (length p) e k t u (holds-between p (entryOf w e) q) (omega arith)
+
 -- behind p, with k records at most to read
-from-place : (es : List Event) → Writable es → (p : List ℕ) (k : ℕ) → length (fileOf es) ≤ k
-    → contentsFrom k (p ++ fileOf es) (length p) ≡ record { events = es; ending = whole }
+from-place : (xs : List Entry) → Writable xs → (p : List ℕ) (k : ℕ) → length (fileOf xs) ≤ k
+    → contentsFrom k (p ++ fileOf xs) (length p) ≡ record { entries = xs; ending = whole }
 unfolding contentsFrom
 from-place [] w p zero h = refl
 from-place [] w p (suc k) h =
     ap (λ (r : Read). andThen r (contentsFrom k (p ++ []))) (past-last (p ++ []) (length p) (omega (arith, length-append p [])))
-from-place (e ∷ es) w p zero h = absurd (let r = record-length e in let l = length-append (recordOf e) (fileOf es) in omega arith)
-from-place (e ∷ es) w p (suc k) h =
-    let r = record-length e in
-    let l = length-append (recordOf e) (fileOf es) in
-    let s : p ++ (recordOf e ++ fileOf es) ≡ p ++ recordOf e ++ fileOf es = sym (append-assoc p (recordOf e) (fileOf es)) in
-    let n : length p + length (recordOf e) ≡ length (p ++ recordOf e) = sym (length-append p (recordOf e)) in
-    let c : contentsFrom k (p ++ recordOf e ++ fileOf es) (length p + length (recordOf e)) ≡ record { events = es; ending = whole } =
-    ap (contentsFrom k (p ++ recordOf e ++ fileOf es)) n ∙ from-place es (w .2) (p ++ recordOf e) k (omega arith) in
-    ap (λ (x : List ℕ). andThen (readAt x (length p)) (contentsFrom k x)) s
-    ∙ ap (λ (x : Read). andThen x (contentsFrom k (p ++ recordOf e ++ fileOf es))) (read-between e (w .0) (w .1) p (fileOf es))
-    ∙ ap (λ (x : Contents). record { events = e ∷ x .events; ending = x .ending }) c
+from-place (x ∷ xs) w p zero h =
+    absurd (let r = some-bytes (x .acts) (x .event) in let l = length-append (entryOf (x .acts) (x .event)) (fileOf xs) in omega arith)
+from-place (x ∷ xs) w p (suc k) h =
+    let b : List ℕ = entryOf (x .acts) (x .event) in
+    let r = some-bytes (x .acts) (x .event) in
+    let l = length-append b (fileOf xs) in
+    let s : p ++ (b ++ fileOf xs) ≡ p ++ b ++ fileOf xs = sym (append-assoc p b (fileOf xs)) in
+    let n : length p + length b ≡ length (p ++ b) = sym (length-append p b) in
+    let c : contentsFrom k (p ++ b ++ fileOf xs) (length p + length b) ≡ record { entries = xs; ending = whole } =
+    ap (contentsFrom k (p ++ b ++ fileOf xs)) n ∙ from-place xs (w .3) (p ++ b) k (omega arith) in
+    ap (λ (y : List ℕ). andThen (readAt y (length p)) (contentsFrom k y)) s
+    ∙ ap (λ (y : Read). andThen y (contentsFrom k (p ++ b ++ fileOf xs))) (read-between (x .acts) (x .event) (w .0) (w .1) (w .2) p (fileOf xs))
+    ∙ ap (λ (y : Contents). record { entries = x ∷ y .entries; ending = y .ending }) c
 
 -- what stands at a place, by what was found there
 again-by : (k : ℕ) (s : List ℕ) (at : ℕ) (found : Read) → ReadStands s at found → length s ≤ at + suc k
-    → ((next : ℕ) → length s ≤ next + k → contentsFrom k s next .ending ≡ whole → fileOf (contentsFrom k s next .events) ≡ drop next s)
-    → andThen found (contentsFrom k s) .ending ≡ whole → fileOf (andThen found (contentsFrom k s) .events) ≡ drop at s
+    → ((next : ℕ) → length s ≤ next + k → contentsFrom k s next .ending ≡ whole → fileOf (contentsFrom k s next .entries) ≡ drop next s)
+    → andThen found (contentsFrom k s) .ending ≡ whole → fileOf (andThen found (contentsFrom k s) .entries) ≡ drop at s
 again-by k s at Read.End w h f e = sym (drop-of-length-le s w)
 again-by k s at (Read.Stop n) w h f e = cc
-again-by k s at (Read.Got x next) w h f e =
-    let r = record-length x in
+again-by k s at (Read.Got x y next) w h f e =
+    let r = some-bytes x y in
     let g = w .1 in
     let n : at + (next - at) ≡ next = omega arith in
     ap₂ (λ (t u : List ℕ). t ++ u) (w .0) (f next (omega arith) e ∙ ap (λ (i : ℕ). drop i s) (sym n) ∙ sym (drop-drop (next - at) at s))
     ∙ take-append-drop (next - at) (drop at s)
 
 again-from : (k : ℕ) (s : List ℕ) (at : ℕ) → AllBytes s → length s ≤ at + k → contentsFrom k s at .ending ≡ whole
-    → fileOf (contentsFrom k s at .events) ≡ drop at s
+    → fileOf (contentsFrom k s at .entries) ≡ drop at s
 unfolding contentsFrom
 again-from zero s at a h e = let l : length s ≤ at = omega arith in sym (drop-of-length-le s l)
 again-from (suc k) s at a h e =
@@ -456,9 +699,16 @@ again-from (suc k) s at a h e =
 
 -- ---- THE LAWS, each with its sentence, to be read alone
 
--- Every record has 4 to 31 bytes.
+-- Every plain record has 4 to 31 bytes, and one of kind 7 six more than the record inside it: 10 to 37.
 pub record-range : (e : Event) → (4 ≤ length (recordOf e)) × (length (recordOf e) ≤ 31)
 record-range e = let l = record-length e in let b = body-length e in (omega arith, omega arith)
+
+pub slotted-range : (i : ℕ) (e : Event)
+    → (length (entryOf (Slot i) e) ≡ length (recordOf e) + 6) × (10 ≤ length (entryOf (Slot i) e)) × (length (entryOf (Slot i) e) ≤ 37)
+slotted-range i e =
+    let l = slotted-length i (recordOf e) in
+    let (a, b) = record-range e in
+    (l, omega arith, omega arith)
 
 passed-byte : (x : Bool) (count : ℕ) → countByte (natureWith x) count ≡ ifSo x (128 + count) count
 unfolding ifSo
@@ -472,46 +722,70 @@ pub message-passed : (kind cause code item parts : ℕ) (x : Bool) (i v : ℕ) (
 message-passed kind cause code item parts x i v y j w duration =
     rw (code-again code item, item-again code item, passed-byte x i, passed-byte y j)
 
--- An event in range, written at any place, reads back as itself, whatever stands before and after it; and reading goes on where it ends.
-pub written-reads-back : (e : Event) → eventOk e ≡ true → Typed e → (p q : List ℕ)
-    → readAt (p ++ recordOf e ++ q) (length p) ≡ Read.Got e (length p + length (recordOf e))
+-- A record is read as a plain one exactly where a reader of plain records alone reads it; and as one at a slot exactly where six bytes name
+-- kind 7, that slot and a length that the record behind them fills, and that reader reads this one.
+pub read-exactly : (s : List ℕ) (at next : ℕ) (w : Where) (e : Event) → (readAt s at ≡ Read.Got w e next) ↔ FoundIn s at w e next
+read-exactly s at next w e = (read-is-found s at next w e, found-is-read w s at next e)
+
+-- An event in range, written at any place, plain or at a slot, reads back as itself, whatever stands before and after it; and reading goes
+-- on where it ends.
+pub written-reads-back : (w : Where) (e : Event) → eventOk e ≡ true → Typed e → TypedWhere w → (p q : List ℕ)
+    → readAt (p ++ entryOf w e ++ q) (length p) ≡ Read.Got w e (length p + length (entryOf w e))
 written-reads-back = read-between
 
 -- The same at the beginning of a file.
-pub first-reads-back : (e : Event) → eventOk e ≡ true → Typed e → (q : List ℕ)
-    → readAt (recordOf e ++ q) 0 ≡ Read.Got e (length (recordOf e))
-first-reads-back e k t q = written-reads-back e k t [] q ∙ ap (Read.Got e) (zero-add (length (recordOf e)))
+pub first-reads-back : (w : Where) (e : Event) → eventOk e ≡ true → Typed e → TypedWhere w → (q : List ℕ)
+    → readAt (entryOf w e ++ q) 0 ≡ Read.Got w e (length (entryOf w e))
+first-reads-back w e k t u q = written-reads-back w e k t u [] q ∙ ap (Read.Got w e) (zero-add (length (entryOf w e)))
+
+-- And of a plain record where plain ones alone are read.
+pub plain-reads-back : (e : Event) → eventOk e ≡ true → Typed e → (p q : List ℕ)
+    → plainAt (p ++ recordOf e ++ q) (length p) ≡ Read.Got Plain e (length p + length (recordOf e))
+plain-reads-back e k t p q = read-is-found (p ++ recordOf e ++ q) (length p) _ Plain e (read-between Plain e k t tt p q)
+
+pub plain-first-reads-back : (e : Event) → eventOk e ≡ true → Typed e → (q : List ℕ)
+    → plainAt (recordOf e ++ q) 0 ≡ Read.Got Plain e (length (recordOf e))
+plain-first-reads-back e k t q = read-is-found (recordOf e ++ q) 0 _ Plain e (first-reads-back Plain e k t tt q)
 
 -- Where a record of a file of bytes is read, in range or not, the bytes that stand there are the record of the event that was read.
-pub read-writes-back : (s : List ℕ) → AllBytes s → (at next : ℕ) (e : Event) → readAt s at ≡ Read.Got e next
-    → (recordOf e ≡ take (next - at) (drop at s)) × (next ≡ at + length (recordOf e))
-read-writes-back s a at next e r = subst (ReadStands s at) r (read-stands s at a)
+pub read-writes-back : (s : List ℕ) → AllBytes s → (at next : ℕ) (w : Where) (e : Event) → readAt s at ≡ Read.Got w e next
+    → (entryOf w e ≡ take (next - at) (drop at s)) × (next ≡ at + length (entryOf w e))
+read-writes-back s a at next w e r = found-stands w s at next e a (read-is-found s at next w e r)
 
 -- So what is read of bytes has numbers of their types, and what is written is bytes: neither has to be asked for where one follows the other.
-pub read-typed : (s : List ℕ) → AllBytes s → (at next : ℕ) (e : Event) → readAt s at ≡ Read.Got e next → Typed e
-read-typed s a at next e r = subst ReadTyped r (found-typed s at a)
+pub read-typed : (s : List ℕ) → AllBytes s → (at next : ℕ) (w : Where) (e : Event) → readAt s at ≡ Read.Got w e next → Typed e × TypedWhere w
+read-typed s a at next w e r = found-typed w s a at next e (read-is-found s at next w e r)
 
-pub record-bytes : (e : Event) → AllBytes (recordOf e)
-record-bytes e = subst AllBytes (sym (record-as e)) (fields-bytes (2 ∷ 2 ∷ fieldsOf e) (lengthWith (fieldsOf e) ∷ kindOf e ∷ valuesOf e))
+plain-bytes : (e : Event) → AllBytes (recordOf e)
+plain-bytes e = subst AllBytes (sym (record-as e)) (fields-bytes (2 ∷ 2 ∷ fieldsOf e) (lengthWith (fieldsOf e) ∷ kindOf e ∷ valuesOf e))
 
--- Two events in range whose records begin a file alike are one event: no record is the beginning of another's.
-pub same-bytes-same-event : (e f : Event) → eventOk e ≡ true → Typed e → eventOk f ≡ true → Typed f → (q r : List ℕ)
-    → recordOf e ++ q ≡ recordOf f ++ r → e ≡ f
-same-bytes-same-event e f k t l u q r h =
-    let g = sym (first-reads-back e k t q) ∙ ap (λ (s : List ℕ). readAt s 0) h ∙ first-reads-back f l u r in
-    cc
+pub record-bytes : (w : Where) (e : Event) → AllBytes (entryOf w e)
+unfolding slottedOf
+record-bytes Plain e = plain-bytes e
+record-bytes (Slot i) e =
+    let n = length (recordOf e) in
+    bytes-join (slotHead n i) (recordOf e)
+    (subst AllBytes (sym (slot-head-as n i)) (fields-bytes (2 ∷ 2 ∷ 2 ∷ []) ((n + 4) ∷ slottedKind ∷ i ∷ []))) (plain-bytes e)
 
--- An event has one form: wherever it is read in files of bytes, the same bytes stand there.
-pub one-form : (s t : List ℕ) → AllBytes s → AllBytes t → (at next at′ next′ : ℕ) (e : Event)
-    → readAt s at ≡ Read.Got e next → readAt t at′ ≡ Read.Got e next′ → take (next - at) (drop at s) ≡ take (next′ - at′) (drop at′ t)
-one-form s t a b at next at′ next′ e g h = sym (read-writes-back s a at next e g .0) ∙ read-writes-back t b at′ next′ e h .0
+-- Two events in range whose records begin a file alike are one event, and stand both plain or both at one slot: no record is the beginning
+-- of another's.
+pub same-bytes-same-event : (v w : Where) (e f : Event) → eventOk e ≡ true → Typed e → TypedWhere v → eventOk f ≡ true → Typed f → TypedWhere w
+    → (q r : List ℕ) → entryOf v e ++ q ≡ entryOf w f ++ r → (v ≡ w) × (e ≡ f)
+same-bytes-same-event v w e f k t x l u y q r h =
+    let g = sym (first-reads-back v e k t x q) ∙ ap (λ (s : List ℕ). readAt s 0) h ∙ first-reads-back w f l u y r in
+    (cc, cc)
 
--- A file that is the records of events in range, one after another, holds just these events and ends after the last.
-pub file-of-events : (es : List Event) → Writable es → contentsOf (fileOf es) ≡ record { events = es; ending = whole }
+-- An event has one form, plain or at a slot: wherever it is read in files of bytes, the same bytes stand there.
+pub one-form : (s t : List ℕ) → AllBytes s → AllBytes t → (at next at′ next′ : ℕ) (w : Where) (e : Event)
+    → readAt s at ≡ Read.Got w e next → readAt t at′ ≡ Read.Got w e next′ → take (next - at) (drop at s) ≡ take (next′ - at′) (drop at′ t)
+one-form s t a b at next at′ next′ w e g h = sym (read-writes-back s a at next w e g .0) ∙ read-writes-back t b at′ next′ w e h .0
+
+-- A file that is the records of events in range, plain or at slots, one after another, holds just these entries and ends after the last.
+pub file-of-entries : (xs : List Entry) → Writable xs → contentsOf (fileOf xs) ≡ record { entries = xs; ending = whole }
 unfolding contentsOf
-file-of-events es w = from-place es w [] (length (fileOf es)) (omega arith)
+file-of-entries xs w = from-place xs w [] (length (fileOf xs)) (omega arith)
 
--- A file of bytes that ends after a record is the records of the events that it holds, in range or not, one after another.
-pub events-of-file : (s : List ℕ) → AllBytes s → contentsOf s .ending ≡ whole → fileOf (eventsOf s) ≡ s
+-- A file of bytes that ends after a record is the records of the entries that it holds, in range or not, one after another.
+pub entries-of-file : (s : List ℕ) → AllBytes s → contentsOf s .ending ≡ whole → fileOf (entriesOf s) ≡ s
 unfolding contentsOf
-events-of-file s a e = again-from (length s) s 0 a (omega arith) e
+entries-of-file s a e = again-from (length s) s 0 a (omega arith) e

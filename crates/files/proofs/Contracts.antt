@@ -25,7 +25,8 @@ use Rattle.files.specs.Listing.{listingOf}
 use Rattle.files.specs.Places.{placesOf}
 use Rattle.files.specs.Words.{Says}
 use Rattle.files.specs.Write.{numberWith, messageWith}
-use Rattle.files.proofs.Same.{Fitted, Opened, Moved, Wrote, Numbered}
+use Rattle.files.specs.declared.Where.the-variants.{Plain, Slot}
+use Rattle.files.proofs.Same.{Fitted, Opened, Moved, Wrote, Numbered, HandedOver}
 use Rattle.files.proofs.bodies.read_at as read-at
 use Rattle.files.proofs.dump.rev_dump as rev-dump
 use Rattle.files.proofs.lent.found_at as found-at
@@ -41,7 +42,9 @@ use Rattle.files.proofs.write.rev_write_expiry as rev-write-expiry
 use Rattle.files.proofs.write.rev_write_message as rev-write-message
 use Rattle.files.proofs.write.rev_write_opening as rev-write-opening
 use Rattle.files.proofs.write.rev_write_request as rev-write-request
+use Rattle.files.proofs.write.rev_write_slot as rev-write-slot
 use Rattle.files.proofs.write.rev_write_time as rev-write-time
+use Rattle.files.proofs.write.write_at_slot as write-at-slot
 use Rattle.files.proofs.write.write_event as write-event
 
 module _ {M : Type 1} (𝓤 : URA M) (H : Heap 𝓤) (A : Atoms 𝓤) (mem : Memory → SProp 𝓤) (run : Routine → Fun 𝓤) where
@@ -97,26 +100,26 @@ module _ {M : Type 1} (𝓤 : URA M) (H : Heap 𝓤) (A : Atoms 𝓤) (mem : Mem
   -- a .0 is the event, a .1 .0 the buffer
   pub write-event-says : (κs : Lfts 1) (a : Args write-event.signature κs) →
       write-event.spec 𝓤 H A mem run κs a
-      ≡ Promises write-event.ended κs a (λ w last. Wrote (a .0) (now (a .1 .0)) w (now (last .1 .0)))
+      ≡ Promises write-event.ended κs a (λ w last. Wrote Plain (a .0) (now (a .1 .0)) w (now (last .1 .0)))
   write-event-says κs a = refl
 
   -- the fields, then the buffer
   pub rev-write-opening-says : (κs : Lfts 1) (a : Args rev-write-opening.signature κs) →
       rev-write-opening.spec 𝓤 H A mem run κs a
       ≡ Promises rev-write-opening.ended κs a
-      (λ r last. Numbered (Opening (a .0) (a .1 .0) (numberWith (a .1 .1 .0) (a .1 .1 .1 .0) (a .1 .1 .1 .1 .0))) (now (a .1 .1 .1 .1 .1 .0)) r (now (last .1 .1 .1 .1 .1 .0)))
+      (λ r last. Numbered Plain (Opening (a .0) (a .1 .0) (numberWith (a .1 .1 .0) (a .1 .1 .1 .0) (a .1 .1 .1 .1 .0))) (now (a .1 .1 .1 .1 .1 .0)) r (now (last .1 .1 .1 .1 .1 .0)))
   rev-write-opening-says κs a = refl
 
   pub rev-write-request-says : (κs : Lfts 1) (a : Args rev-write-request.signature κs) →
       rev-write-request.spec 𝓤 H A mem run κs a
       ≡ Promises rev-write-request.ended κs a
-      (λ r last. Numbered (Ask (a .0) (numberWith (a .1 .0) (a .1 .1 .0) (a .1 .1 .1 .0))) (now (a .1 .1 .1 .1 .0)) r (now (last .1 .1 .1 .1 .0)))
+      (λ r last. Numbered Plain (Ask (a .0) (numberWith (a .1 .0) (a .1 .1 .0) (a .1 .1 .1 .0))) (now (a .1 .1 .1 .1 .0)) r (now (last .1 .1 .1 .1 .0)))
   rev-write-request-says κs a = refl
 
   pub rev-write-message-says : (κs : Lfts 1) (a : Args rev-write-message.signature κs) →
       rev-write-message.spec 𝓤 H A mem run κs a
       ≡ Promises rev-write-message.ended κs a
-      (λ r last. Numbered
+      (λ r last. Numbered Plain
       (messageWith (a .0) (a .1 .0) (a .1 .1 .0) (a .1 .1 .1 .0) (a .1 .1 .1 .1 .0)
       (numberWith (a .1 .1 .1 .1 .1 .0) (a .1 .1 .1 .1 .1 .1 .0) (a .1 .1 .1 .1 .1 .1 .1 .0))
       (numberWith (a .1 .1 .1 .1 .1 .1 .1 .1 .0) (a .1 .1 .1 .1 .1 .1 .1 .1 .1 .0) (a .1 .1 .1 .1 .1 .1 .1 .1 .1 .1 .0)) (a .1 .1 .1 .1 .1 .1 .1 .1 .1 .1 .1 .0))
@@ -125,18 +128,30 @@ module _ {M : Type 1} (𝓤 : URA M) (H : Heap 𝓤) (A : Atoms 𝓤) (mem : Mem
 
   pub rev-write-access-says : (κs : Lfts 1) (a : Args rev-write-access.signature κs) →
       rev-write-access.spec 𝓤 H A mem run κs a
-      ≡ Promises rev-write-access.ended κs a (λ r last. Numbered (FromAccess (a .0) (a .1 .0)) (now (a .1 .1 .0)) r (now (last .1 .1 .0)))
+      ≡ Promises rev-write-access.ended κs a (λ r last. Numbered Plain (FromAccess (a .0) (a .1 .0)) (now (a .1 .1 .0)) r (now (last .1 .1 .0)))
   rev-write-access-says κs a = refl
 
   pub rev-write-expiry-says : (κs : Lfts 1) (a : Args rev-write-expiry.signature κs) →
       rev-write-expiry.spec 𝓤 H A mem run κs a
-      ≡ Promises rev-write-expiry.ended κs a (λ r last. Numbered Expiry (now (a .0)) r (now (last .0)))
+      ≡ Promises rev-write-expiry.ended κs a (λ r last. Numbered Plain Expiry (now (a .0)) r (now (last .0)))
   rev-write-expiry-says κs a = refl
 
   pub rev-write-time-says : (κs : Lfts 1) (a : Args rev-write-time.signature κs) →
       rev-write-time.spec 𝓤 H A mem run κs a
-      ≡ Promises rev-write-time.ended κs a (λ r last. Numbered (Time (a .0)) (now (a .1 .0)) r (now (last .1 .0)))
+      ≡ Promises rev-write-time.ended κs a (λ r last. Numbered Plain (Time (a .0)) (now (a .1 .0)) r (now (last .1 .0)))
   rev-write-time-says κs a = refl
+
+  -- a .0 is the slot, a .1 .0 the event, a .1 .1 .0 the buffer
+  pub write-at-slot-says : (κs : Lfts 1) (a : Args write-at-slot.signature κs) →
+      write-at-slot.spec 𝓤 H A mem run κs a
+      ≡ Promises write-at-slot.ended κs a (λ w last. Wrote (Slot (a .0)) (a .1 .0) (now (a .1 .1 .0)) w (now (last .1 .1 .0)))
+  write-at-slot-says κs a = refl
+
+  -- a .0 is the slot, a .1 .0 the record inside, a .1 .1 .0 the buffer
+  pub rev-write-slot-says : (κs : Lfts 2) (a : Args rev-write-slot.signature κs) →
+      rev-write-slot.spec 𝓤 H A mem run κs a
+      ≡ Promises rev-write-slot.ended κs a (λ r last. HandedOver (now (a .1 .0)) (a .0) (now (a .1 .1 .0)) r (now (last .1 .1 .0)))
+  rev-write-slot-says κs a = refl
 
   -- two numbers, three parameters each
   pub rev-same-number-says : (κs : Lfts 0) (a : Args rev-same-number.signature κs) →
@@ -145,7 +160,7 @@ module _ {M : Type 1} (𝓤 : URA M) (H : Heap 𝓤) (A : Atoms 𝓤) (mem : Mem
       (λ r last. r ≡ sameNumber (numberWith (a .0) (a .1 .0) (a .1 .1 .0)) (numberWith (a .1 .1 .1 .0) (a .1 .1 .1 .1 .0) (a .1 .1 .1 .1 .1 .0)))
   rev-same-number-says κs a = refl
 
-  -- a .0 is the line, a .1 .0 the event
+  -- a .0 is the line, a .1 .0 says plain or which slot, a .1 .1 .0 is the event
   pub says-says : (κs : Lfts 1) (a : Args says.signature κs) →
-      says.spec 𝓤 H A mem run κs a ≡ Promises says.ended κs a (λ r last. Says (now (a .0)) (a .1 .0) r)
+      says.spec 𝓤 H A mem run κs a ≡ Promises says.ended κs a (λ r last. Says (now (a .0)) (a .1 .0) (a .1 .1 .0) r)
   says-says κs a = refl

@@ -1,6 +1,7 @@
 -- 8 is never a length: a listing has 12 bytes at least, a dump 10. So an answer 8 says that the text was not given, and why.
 -- Assumes nothing.
 use mathlib.Core.Path.{_≡_, refl}
+use mathlib.Core.Bool.{Bool}
 use mathlib.Core.List.{List, [], _∷_, _++_}
 use mathlib.Core.Logic.{_↔_, _⊎_, inl, inr}
 use Prim.Native.Nat.{ℕ, _+_, _≤_, _<_}
@@ -9,13 +10,13 @@ use lib.ListN.{length, length-append}
 use Rattle.text.specs.Text.{ascii, decimal, numbered}
 use Rattle.text.proofs.Cases.{both-lt}
 use Rattle.text.proofs.Decimal.{decimal-some}
-use Rattle.rows.specs.Step.{unopenedCall}
 use Rattle.rows.specs.declared.Call.{Call}
+use Rattle.board.specs.Row.{emptyRow}
 use Rattle.files.specs.Bodies.{readAt}
 use Rattle.files.specs.Dump.{dumpOf}
 use Rattle.files.specs.Fit.{longest, tooLong, answers}
 use Rattle.files.specs.Lines.{numberedLine, recordText}
-use Rattle.files.specs.Listing.{answerOf, restOf, recordsOf, listingOf}
+use Rattle.files.specs.Listing.{slotFound, answerBy, rowBy, restOf, recordsOf, listingBy, namesSlots, listingOf}
 use Rattle.files.specs.Places.{placesOf}
 
 -- a word, a digit at least, and the end of the line
@@ -28,17 +29,18 @@ front-least : (n : ℕ) (a b : List ℕ) → n ≤ length a → n ≤ length (a 
 front-least n a b h = omega (arith, length-append a b)
 
 -- after any records END comes, with a count
-rest-least : (s : List ℕ) (n : ℕ) (c : Call) (places : List ℕ) → 6 ≤ length (restOf s n c places)
+rest-least : (s : List ℕ) (shown : Bool) (n : ℕ) (row : List Call) (places : List ℕ) → 6 ≤ length (restOf s shown n row places)
 unfolding restOf
-rest-least s n c [] = line-least (ascii "END ") n
-rest-least s n c (at ∷ places) =
-    let o = answerOf (readAt s at) c in
-    omega (arith, length-append (recordText (n + 1) o) (restOf s (n + 1) (o .call) places), rest-least s (n + 1) (o .call) places)
+rest-least s shown n row [] = line-least (ascii "END ") n
+rest-least s shown n row (at ∷ places) =
+    let f = readAt s at in
+    let rest = restOf s shown (n + 1) (rowBy f row) places in
+    omega (arith, length-append (recordText (n + 1) shown (slotFound f) (answerBy f row)) rest, rest-least s shown (n + 1) (rowBy f row) places)
 
 -- Every listing has at least 12 bytes: `REV 1`, `END 0` and their ends of line.
 pub listing-length : (s : List ℕ) → 12 ≤ length (listingOf s)
-unfolding listingOf recordsOf
-listing-length s = omega (arith, rest-least s 0 unopenedCall (placesOf s))
+unfolding listingOf listingBy recordsOf
+listing-length s = omega (arith, rest-least s (namesSlots s) 0 emptyRow (placesOf s))
 
 -- Every dump has at least 10 bytes: `RECORDS 0` and its end of line.
 pub dump-length : (s : List ℕ) → 10 ≤ length (dumpOf s)

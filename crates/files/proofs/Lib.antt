@@ -6,12 +6,15 @@ pub mod CountByte
 pub mod Eight
 pub mod Fits
 pub mod GivenBack
+pub mod Held
 pub mod HostWrites
+pub mod OneCall
 pub mod Puts
 pub mod Records
 pub mod RecordsWorked
 pub mod Same
 pub mod Shown
+pub mod Slots
 pub mod Stored
 pub mod Texts
 pub mod Theorems

@@ -1,17 +1,18 @@
 -- What the writer's functions put is what its definitions say: bytes of a number, fields, records; and what is answered and left.
 -- Assumes nothing.
 use mathlib.Core.Bool.{Bool, true, false}
-use mathlib.Core.Path.{_≡_, refl, sym, ap, _∙_}
+use mathlib.Core.Path.{_≡_, refl, sym, ap, subst, _∙_}
 use mathlib.Core.List.{List, [], _∷_, _++_, append-assoc, append-nil}
-use Prim.Native.Nat.{ℕ, zero, _+_, _*_, _/_, _%_, _^_, _≤_, _<_}
+use Prim.Native.Nat.{ℕ, zero, _+_, _-_, _*_, _/_, _%_, _^_, _≤_, _<_}
 use native.Mathlib.Nat.{zero-add}
 use native.Mathlib.Numerals.{add-one}
 use native.Mathlib.Omega.{arith}
-use lib.ListN.{length, set, drop}
-use lib.Seq.{sets, sets-eq}
+use lib.ListN.{length, set, take, drop, length-append, length-drop, take-append-drop, drop-of-length-le}
+use lib.Seq.{sets, sets-eq, length-take-le, take-all, drop-drop, drop-append-seam}
+use borrow.Rule.Slice.PartMut.{midOf, putMid}
 use Rattle.text.specs.Text.{Put}
-use Rattle.text.specs.Choose.{ifEq, ifSo}
-use Rattle.text.proofs.Cases.{yes-so, no-so, yes-lt, no-lt}
+use Rattle.text.specs.Choose.{ifLt, ifEq, ifSo}
+use Rattle.text.proofs.Cases.{yes-so, no-so, yes-lt, no-lt, both-so, both-lt}
 use Rattle.text.proofs.Laws.{put-none, put-in, put-after, put-as}
 use Rattle.rows.specs.Valid.{eventOk, badFieldOf}
 use Rattle.rows.specs.declared.Component.{Component}
@@ -23,17 +24,21 @@ use Rattle.rows.specs.declared.Nature.the-variants.{National, International}
 use Rattle.rows.specs.declared.Number.{Number}
 use Rattle.rows.proofs.Ranges.{none-bad-exactly}
 use Rattle.files.specs.Bodies.{countByte, componentOf, codeOf, itemOf, numberValues, frontValues, carriedValues, kindOf, fieldsOf}
-use Rattle.files.specs.Bodies.{valuesOf, headOf, recordOf}
+use Rattle.files.specs.Bodies.{valuesOf, headOf, recordOf, slotHead, slottedOf, entryOf, plainAt}
 use Rattle.files.specs.Bytes.{leOf, part}
 use Rattle.files.specs.Fields.{numberFields, openingFields, askFields, frontFields, carriedFields, messageFields, accessFields}
 use Rattle.files.specs.Fields.{expiryFields, timeFields}
 use Rattle.files.specs.Fields.{sizeOf, bytesOf}
-use Rattle.files.specs.Frames.{lengthWith, lengthOf}
-use Rattle.files.specs.Write.{writtenOf, leftOf, givesBack, messageWith}
+use Rattle.files.specs.Frames.{lengthWith, lengthOf, slottedKind}
+use Rattle.files.specs.Write.{writtenOf, leftOf, writtenAt, leftAt, givesBack, slotGives, slotLeaves, messageWith}
+use Rattle.files.specs.declared.Read.{Read}
+use Rattle.files.specs.declared.Where.{Where}
+use Rattle.files.specs.declared.Where.the-variants.{Plain, Slot}
 use Rattle.files.specs.declared.Written.{Written}
 use Rattle.files.specs.declared.Written.the-variants.{Whole, BadField, NoRoom}
-use Rattle.files.proofs.BothWays.{record-length}
+use Rattle.files.proofs.BothWays.{record-length, record-range, slot-head-length, slotted-length}
 use Rattle.files.proofs.Records.{not-one, message-size}
+use Rattle.files.proofs.Same.{answeredOf, heldOf, HandedOver}
 
 -- ---- the bytes of a number
 
@@ -146,6 +151,12 @@ pub head-as : (l₀ l₁ l₂ : List ℕ) (i j len kind : ℕ) → Put l₀ 0 (l
     → Put l₀ 0 (headOf len kind) l₂ j
 unfolding headOf
 head-as l₀ l₁ l₂ i j len kind p q = put-after q p
+
+-- the six bytes before a record that stands inside one of kind 7
+pub slot-head-as : (l₀ l₁ l₂ : List ℕ) (i j n slot : ℕ) → Put l₀ 0 (headOf (n + 4) slottedKind) l₁ i → Put l₁ i (leOf 2 slot) l₂ j
+    → Put l₀ 0 (slotHead n slot) l₂ j
+unfolding slotHead
+slot-head-as l₀ l₁ l₂ i j n slot p q = put-after q p
 
 -- a head with the length of the event's fields, and the body behind it
 put-record : {l₀ l₁ l₂ : List ℕ} {i j : ℕ} (e : Event) → Put l₀ 0 (headOf (lengthWith (fieldsOf e)) (kindOf e)) l₁ i
@@ -260,6 +271,139 @@ module _ (e : Event) (out : List ℕ) where
           yes-so _ _ _ _ good (no-lt _ _ _ _ _ k s),
         )
 
+-- ---- what is answered and left of a record, plain or at a slot: what holds of all three answers, each by what led to it
+
+module _ (w : Where) (e : Event) (out : List ℕ) where
+  answered-as : answeredOf w e out
+      ≡ ifSo (eventOk e) (ifLt (length out) (length (entryOf w e)) NoRoom (Whole (length (entryOf w e)))) (BadField (badFieldOf e))
+  unfolding writtenOf writtenAt
+  answered-as = by w
+    where
+      by : (v : Where) → answeredOf v e out
+          ≡ ifSo (eventOk e) (ifLt (length out) (length (entryOf v e)) NoRoom (Whole (length (entryOf v e)))) (BadField (badFieldOf e))
+      by Plain = refl
+      by (Slot i) = refl
+
+  held-as : heldOf w e out
+      ≡ ifSo (eventOk e) (ifLt (length out) (length (entryOf w e)) out (entryOf w e ++ drop (length (entryOf w e)) out)) out
+  unfolding leftOf leftAt
+  held-as = by w
+    where
+      by : (v : Where) → heldOf v e out
+          ≡ ifSo (eventOk e) (ifLt (length out) (length (entryOf v e)) out (entryOf v e ++ drop (length (entryOf v e)) out)) out
+      by Plain = refl
+      by (Slot i) = refl
+
+  pub is-bad : eventOk e ≡ false → (BadField (badFieldOf e) ≡ answeredOf w e out) × (out ≡ heldOf w e out)
+  is-bad h = (no-so _ _ _ _ h refl ∙ sym answered-as, no-so _ _ _ _ h refl ∙ sym held-as)
+
+  module _ (h : eventOk e ≡ true) where
+    pub is-narrow : length out < length (entryOf w e) → (NoRoom ≡ answeredOf w e out) × (out ≡ heldOf w e out)
+    is-narrow l =
+        (yes-so _ _ _ _ h (yes-lt _ _ _ _ _ l refl) ∙ sym answered-as, yes-so _ _ _ _ h (yes-lt _ _ _ _ _ l refl) ∙ sym held-as)
+
+    pub is-whole : length (entryOf w e) ≤ length out
+        → (Whole (length (entryOf w e)) ≡ answeredOf w e out) × (entryOf w e ++ drop (length (entryOf w e)) out ≡ heldOf w e out)
+    is-whole l =
+        (yes-so _ _ _ _ h (no-lt _ _ _ _ _ l refl) ∙ sym answered-as, yes-so _ _ _ _ h (no-lt _ _ _ _ _ l refl) ∙ sym held-as)
+
+  pub ways : (P : Written → List ℕ → Type 0)
+      → (eventOk e ≡ false → P (BadField (badFieldOf e)) out)
+      → (eventOk e ≡ true → length out < length (entryOf w e) → P NoRoom out)
+      → (eventOk e ≡ true → length (entryOf w e) ≤ length out → P (Whole (length (entryOf w e))) (entryOf w e ++ drop (length (entryOf w e)) out))
+      → P (answeredOf w e out) (heldOf w e out)
+  ways P bad narrow whole =
+      both-so (eventOk e) (λ (_ : ℕ). P (answeredOf w e out) (heldOf w e out)) 0 0
+      (λ h.
+      both-lt (length out) (length (entryOf w e)) (λ (_ : ℕ). P (answeredOf w e out) (heldOf w e out)) 0 0
+      (λ l. at (is-narrow h l) (narrow h l)) (λ l. at (is-whole h l) (whole h l)))
+      (λ h. at (is-bad h) (bad h))
+    where
+      at : {a : Written} {l : List ℕ} → (a ≡ answeredOf w e out) × (l ≡ heldOf w e out) → P a l → P (answeredOf w e out) (heldOf w e out)
+      at (f, g) p = subst (λ (x : Written). P x (heldOf w e out)) f (subst (P _) g p)
+
+-- ---- a record of kind 7: the plain one is written where it will stand, and then the six bytes before it
+
+-- the six bytes are there whatever was written behind them
+pub room-left : (out last : List ℕ) → 6 ≤ length out → 6 ≤ length (putMid 6 (length out - 6) out last)
+room-left out last h =
+    let m : length (take 6 out) ≡ 6 = length-take-le 6 out h in
+    omega (arith, length-append (take 6 out) (last ++ drop (length out - 6) (drop 6 out)))
+
+module _ (i : ℕ) (e : Event) (out : List ℕ) where
+  -- where there is no room for the six bytes, the plain record is written where there is no room either
+  pub headless-as : (a : Written) (last : List ℕ) → length out < 6 → (a ≡ writtenOf e []) × (last ≡ leftOf e [])
+      → (a ≡ writtenAt i e out) × (last ++ out ≡ leftAt i e out)
+  headless-as a last l (f, g) =
+      let r = record-length e in
+      let s = slotted-length i (recordOf e) in
+      let P : Written → List ℕ → Type 0 = λ a last. (a ≡ writtenAt i e out) × (last ++ out ≡ leftAt i e out) in
+      subst (λ (x : Written). P x last) (sym f) (subst (P (writtenOf e [])) (sym g)
+      (ways Plain e [] P (λ h. is-bad (Slot i) e out h) (λ h _. is-narrow (Slot i) e out h (omega arith)) (λ _ n. absurd (omega arith))))
+
+  -- what was answered to the plain record, and left in the part of the buffer behind the six bytes
+  abbrev pub InSlot : Written → List ℕ → Type 0
+  InSlot (Whole n) last =
+      (n < 2 ^ 16) × (Whole (n + 6) ≡ writtenAt i e out)
+      × ((new : List ℕ) (r : ℕ) → Put (putMid 6 (length out - 6) out last) 0 (slotHead n i) new r → new ≡ leftAt i e out)
+  InSlot (BadField k) last = (BadField k ≡ writtenAt i e out) × (putMid 6 (length out - 6) out last ≡ leftAt i e out)
+  InSlot NoRoom last = (NoRoom ≡ writtenAt i e out) × (putMid 6 (length out - 6) out last ≡ leftAt i e out)
+
+  module _ (l : 6 ≤ length out) where
+    part-is : midOf 6 (length out - 6) out ≡ drop 6 out
+    part-is = take-all (length out - 6) (drop 6 out) (omega (arith, length-drop 6 out))
+
+    put-is : (last : List ℕ) → putMid 6 (length out - 6) out last ≡ take 6 out ++ last
+    put-is last =
+        let h : length (drop 6 out) ≤ length out - 6 = omega (arith, length-drop 6 out) in
+        ap (λ (t : List ℕ). take 6 out ++ (last ++ t)) (drop-of-length-le (drop 6 out) h)
+        ∙ ap (λ (t : List ℕ). take 6 out ++ t) (append-nil last)
+
+    -- left as it was
+    same-is : putMid 6 (length out - 6) out (drop 6 out) ≡ out
+    same-is = put-is (drop 6 out) ∙ take-append-drop 6 out
+
+    headed : (last new : List ℕ) (n r : ℕ) → Put (putMid 6 (length out - 6) out last) 0 (slotHead n i) new r → new ≡ slotHead n i ++ last
+    headed last new n r p =
+        let k = slot-head-length n i in
+        let m : length (take 6 out) ≡ 6 = length-take-le 6 out l in
+        let h : 6 ≤ length (take 6 out ++ last) = omega (arith, length-append (take 6 out) last) in
+        let q : drop (0 + length (slotHead n i)) (take 6 out ++ last) ≡ last =
+        ap (λ (j : ℕ). drop j (take 6 out ++ last)) (zero-add (length (slotHead n i)) ∙ k ∙ sym m) ∙ drop-append-seam (take 6 out) last in
+        p .bytes ∙ ap (λ (t : List ℕ). sets t 0 (slotHead n i)) (put-is last)
+        ∙ sets-eq (slotHead n i) (take 6 out ++ last) 0 (omega arith) ∙ ap (λ (t : List ℕ). slotHead n i ++ t) q
+
+    pub in-slot : (a : Written) (last : List ℕ)
+        → (a ≡ writtenOf e (midOf 6 (length out - 6) out)) × (last ≡ leftOf e (midOf 6 (length out - 6) out)) → InSlot a last
+    unfolding slottedOf
+    in-slot a last (f, g) =
+        let r = record-length e in
+        let z = record-range e in
+        let s = slotted-length i (recordOf e) in
+        let d = length-drop 6 out in
+        let n = length (recordOf e) in
+        subst (λ (x : Written). InSlot x last) (sym (f ∙ ap (writtenOf e) part-is))
+        (subst (InSlot (writtenOf e (drop 6 out))) (sym (g ∙ ap (leftOf e) part-is))
+        (ways Plain e (drop 6 out) InSlot
+        (λ h. let (b, c) = is-bad (Slot i) e out h in (b, same-is ∙ c))
+        (λ h m. let (b, c) = is-narrow (Slot i) e out h (omega arith) in (b, same-is ∙ c))
+        (λ h m.
+        let (b, c) = is-whole (Slot i) e out h (omega arith) in
+        let j : 6 + n ≡ length (slottedOf i (recordOf e)) = omega arith in (
+          omega arith,
+          ap Whole (sym s) ∙ b,
+          λ new k p.
+              headed (recordOf e ++ drop n (drop 6 out)) new n k p
+              ∙ sym (append-assoc (slotHead n i) (recordOf e) (drop n (drop 6 out)))
+              ∙ ap (λ (t : List ℕ). slotHead n i ++ recordOf e ++ t) (drop-drop n 6 out ∙ ap (λ (x : ℕ). drop x out) j)
+              ∙ c,
+        ))))
+
+-- the answer that was matched
+pub told : (i : ℕ) (e : Event) (out : List ℕ) → 6 ≤ length out → (a b : Written) (last : List ℕ) → a ≡ b
+    → (a ≡ writtenOf e (midOf 6 (length out - 6) out)) × (last ≡ leftOf e (midOf 6 (length out - 6) out)) → InSlot i e out b last
+told i e out l a b last g p = subst (λ (x : Written). InSlot i e out x last) g (in-slot i e out l a last p)
+
 -- the event that was matched
 pub matched-as : (e f : Event) (out new : List ℕ) (w : Written) → e ≡ f → (w ≡ writtenOf f out) × (new ≡ leftOf f out)
     → (w ≡ writtenOf e out) × (new ≡ leftOf e out)
@@ -288,3 +432,17 @@ pub message-made : (kind cause code item parts duration : ℕ) (component : Comp
     (record { kind = kind; cause = cause; component = component; parts = parts; calling = calling; called = called; duration = duration })
     ≡ messageWith kind cause code item parts calling′ called′ duration
 message-made kind cause code item parts duration component calling calling′ called called′ e f g = rw (e, f, g)
+
+-- ---- what a host in C is given back for a plain record that it hands over, by the reading of it
+
+module _ (s : List ℕ) (i : ℕ) (out : List ℕ) (f : Read) (e : f ≡ plainAt s 0) where
+  pub handed-none : f ≡ Read.End → HandedOver s i out 5 out
+  handed-none g = subst (λ (x : Read). (5 ≡ slotGives x i out) × (out ≡ slotLeaves x i out)) (sym g ∙ e) (refl, refl)
+
+  pub handed-stop : (n : ℕ) → f ≡ Read.Stop n → HandedOver s i out n out
+  handed-stop n g = subst (λ (x : Read). (n ≡ slotGives x i out) × (out ≡ slotLeaves x i out)) (sym g ∙ e) (refl, refl)
+
+  pub handed-got : (w : Where) (x : Event) (next r : ℕ) (a : Written) (new : List ℕ) → f ≡ Read.Got w x next → r ≡ givesBack a
+      → (a ≡ writtenAt i x out) × (new ≡ leftAt i x out) → HandedOver s i out r new
+  handed-got w x next r a new g h (k, l) =
+      subst (λ (y : Read). (r ≡ slotGives y i out) × (new ≡ slotLeaves y i out)) (sym g ∙ e) (h ∙ ap givesBack k, l)

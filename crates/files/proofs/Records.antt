@@ -12,18 +12,19 @@ use Rattle.rows.specs.declared.Event.{Event}
 use Rattle.rows.specs.declared.Event.the-variants.{Opening, Ask, FromAccess, Time}
 use Rattle.rows.specs.declared.Nature.{Nature}
 use Rattle.rows.specs.declared.Number.{Number}
-use Rattle.text.specs.Choose.{ifLt, ifSo}
-use Rattle.text.proofs.Cases.{no-le, both-lt, both-le, both-eq}
+use Rattle.text.specs.Choose.{ifLt, ifEq, ifSo}
+use Rattle.text.proofs.Cases.{yes-lt, no-lt, no-le, yes-eq, no-eq, both-lt, both-le, both-eq}
 use Rattle.files.specs.Bytes.{byteAt, leAt, part}
 use Rattle.files.specs.Bodies.{natureOf, countOf, numberIf, messageFrom, openingAt, askAt, componentOf, messageAt, accessAt, timeAt, eventAt}
-use Rattle.files.specs.Bodies.{readBy, readAt}
+use Rattle.files.specs.Bodies.{bodyAt, readBy, readAt, plainAt}
 use Rattle.files.specs.Fields.{numberFields, carriedFields, messageFields, sizeOf, valuesAt}
-use Rattle.files.specs.Frames.{lengthWith, lengthOf, frameOf, frameAt}
+use Rattle.files.specs.Frames.{lengthWith, lengthOf, plainOf, plainFrame, kindlessOf, outerOf, inSlot, slottedFrame, frameAt}
 use Rattle.files.specs.declared.Frame.{Frame}
 use Rattle.files.specs.Lent.{takenAt}
 use Rattle.files.specs.Places.{placeAfter}
 use Rattle.files.specs.declared.Read.{Read}
 use Rattle.files.specs.declared.Taken.{Taken}
+use Rattle.files.specs.declared.Where.{Where}
 
 pub past-end : (s : List ℕ) (i : ℕ) → length s ≤ i → 0 ≡ byteAt s i
 past-end s i h = sym (List·getD-eq-default s 0 h)
@@ -125,10 +126,38 @@ message-as s b kind cause code n parts duration component calling called e f g h
     ∙ ap (λ (vs : List ℕ). byteAt s b ∷ byteAt s (b + 1) ∷ byteAt s (b + 2) ∷ byteAt s (b + 3) ∷ byteAt s (b + 4) ∷ vs)
     (carried s (b + 5) (part (byteAt s (b + 4)) 16) (part (byteAt s (b + 4)) 32) (part (byteAt s (b + 4)) 64)))))
 
-pub frame-as : (s : List ℕ) (at len kind parts wide want : ℕ) (r : Frame) → r ≡ frameOf (length s) at len kind want
-    → len ≡ leAt 2 s at → kind ≡ leAt 2 s (at + 2) → parts ≡ byteAt s (at + 8) → wide ≡ parts → want ≡ lengthOf kind wide → r ≡ frameAt s at
+-- ---- a frame, by the numbers that were read
+
+pub plain-as : (s : List ℕ) (at len kind parts wide want : ℕ) (r : Frame) → r ≡ plainOf (length s) at len kind want
+    → len ≡ leAt 2 s at → kind ≡ leAt 2 s (at + 2) → parts ≡ byteAt s (at + 8) → wide ≡ parts → want ≡ lengthOf kind wide → r ≡ plainFrame s at
+unfolding plainFrame
+plain-as s at len kind parts wide want r e f g h i j = e ∙ rw (j, i, h, g, f)
+
+-- a record of kind 7: what stops it, or what stands inside
+module _ (s : List ℕ) (at len inner number : ℕ) (e : len ≡ leAt 2 s at) (f : inner ≡ leAt 2 s (at + 6)) (g : number ≡ outerOf (length s) at len inner) where
+  outer-is : number ≡ outerOf (length s) at (leAt 2 s at) (leAt 2 s (at + 6))
+  outer-is = g ∙ rw (e, f)
+
+  pub slotted-in : number ≡ 0 → (slot : ℕ) (inside r : Frame) → slot ≡ leAt 2 s (at + 4) → inside ≡ plainFrame s (at + 6) → r ≡ inSlot slot inside → r ≡ slottedFrame s at
+  unfolding slottedFrame
+  slotted-in z slot inside r h i j = yes-eq _ _ _ _ _ (sym outer-is ∙ z) (j ∙ rw (h, i))
+
+  pub slotted-stop : (number ≡ 0 → ⊥) → Frame.Stop number ≡ slottedFrame s at
+  unfolding slottedFrame
+  slotted-stop z = no-eq _ _ _ _ _ (λ h. z (outer-is ∙ h)) (ap Frame.Stop outer-is)
+
+-- any record
+pub frame-kindless : (s : List ℕ) (at len number : ℕ) → length s < at + 4 → len ≡ leAt 2 s at → number ≡ kindlessOf (length s) at len → Frame.Stop number ≡ frameAt s at
 unfolding frameAt
-frame-as s at len kind parts wide want r e f g h i j = e ∙ rw (j, i, h, g, f)
+frame-kindless s at len number h e f = yes-lt _ _ _ _ _ h (ap Frame.Stop (f ∙ rw e))
+
+pub frame-slotted : (s : List ℕ) (at kind : ℕ) (r : Frame) → at + 4 ≤ length s → kind ≡ leAt 2 s (at + 2) → kind ≡ 7 → r ≡ slottedFrame s at → r ≡ frameAt s at
+unfolding frameAt
+frame-slotted s at kind r h e f g = no-lt _ _ _ _ _ h (yes-eq _ _ _ _ _ (sym e ∙ f) g)
+
+pub frame-plain : (s : List ℕ) (at kind : ℕ) (r : Frame) → at + 4 ≤ length s → kind ≡ leAt 2 s (at + 2) → (kind ≡ 7 → ⊥) → r ≡ plainFrame s at → r ≡ frameAt s at
+unfolding frameAt
+frame-plain s at kind r h e f g = no-lt _ _ _ _ _ h (no-eq _ _ _ _ _ (λ z. f (e ∙ z)) g)
 
 -- what a message has behind its parts
 pub message-size : (parts : ℕ) → 7 + 9 * part parts 16 + 9 * part parts 32 + 4 * part parts 64 ≡ lengthWith (messageFields parts)
@@ -136,14 +165,20 @@ unfolding sizeOf
 message-size parts = omega arith
 
 -- by the frame f that was found
-module _ (s : List ℕ) (at : ℕ) (f : Frame) (h : at < length s) where
-  pub stop-as : (n : ℕ) → f ≡ Frame.Stop n → f ≡ frameAt s at → Read.Stop n ≡ readAt s at
-  unfolding readAt
-  stop-as n e g = no-le _ _ _ _ _ h (ap (readBy s at) (sym e ∙ g))
+pub by-stop : (s : List ℕ) (at n : ℕ) (f : Frame) → f ≡ Frame.Stop n → Read.Stop n ≡ readBy s at f
+by-stop s at n f e = ap (readBy s at) (sym e)
 
-  pub body-as : (kind next : ℕ) (v : Event) → f ≡ Frame.Body kind next → f ≡ frameAt s at → v ≡ eventAt s (at + 4) kind → Read.Got v next ≡ readAt s at
-  unfolding readAt
-  body-as kind next v e g i = no-le _ _ _ _ _ h (ap (λ (w : Event). Read.Got w next) i ∙ ap (readBy s at) (sym e ∙ g))
+pub by-body : (s : List ℕ) (at kind next b : ℕ) (w : Where) (f : Frame) (v : Event) → f ≡ Frame.Body w kind next → b ≡ bodyAt w at → v ≡ eventAt s b kind
+    → Read.Got w v next ≡ readBy s at f
+by-body s at kind next b w f v e g h = ap (λ (x : Event). Read.Got w x next) (h ∙ rw g) ∙ ap (readBy s at) (sym e)
+
+pub read-as : (s : List ℕ) (at : ℕ) (f : Frame) (r : Read) → at < length s → f ≡ frameAt s at → r ≡ readBy s at f → r ≡ readAt s at
+unfolding readAt
+read-as s at f r h e g = no-le _ _ _ _ _ h (g ∙ ap (readBy s at) e)
+
+pub plain-read-as : (s : List ℕ) (at : ℕ) (f : Frame) (r : Read) → at < length s → f ≡ plainFrame s at → r ≡ readBy s at f → r ≡ plainAt s at
+unfolding plainAt
+plain-read-as s at f r h e g = no-le _ _ _ _ _ h (g ∙ ap (readBy s at) e)
 
 pub taken-as : (s : List ℕ) (at next : ℕ) (found : Read) → found ≡ readAt s at → next ≡ placeAfter found at → record { found = found; next = next } ≡ takenAt s at
 unfolding takenAt
@@ -156,30 +191,87 @@ taken-is s at t e = (ap (λ (x : Taken). x .found) e, ap (λ (x : Taken). x .nex
 
 -- ---- a record takes 4 bytes at least, and ends within the file
 
-abbrev FrameWithin : ℕ → ℕ → Frame → Type 0
+abbrev pub FrameWithin : ℕ → ℕ → Frame → Type 0
 FrameWithin n at (Frame.Stop k) = Unit {0}
-FrameWithin n at (Frame.Body kind next) = (at + 4 ≤ next) × (next ≤ n)
+FrameWithin n at (Frame.Body w kind next) = (at + 4 ≤ next) × (next ≤ n)
 
 abbrev pub Within : ℕ → ℕ → Read → Type 0
 Within n at Read.End = Unit {0}
 Within n at (Read.Stop k) = Unit {0}
-Within n at (Read.Got e next) = (at + 4 ≤ next) × (next ≤ n)
+Within n at (Read.Got w e next) = (at + 4 ≤ next) × (next ≤ n)
 
-frame-within : (n at len kind want : ℕ) → FrameWithin n at (frameOf n at len kind want)
-unfolding frameOf
-frame-within n at len kind want =
-    both-lt _ _ (FrameWithin n at) _ _ (λ _. tt) λ _.
-    both-lt _ _ (FrameWithin n at) _ _ (λ _. tt) λ h.
-    both-lt _ _ (FrameWithin n at) _ _ (λ _. tt) λ _.
-    both-lt _ _ (FrameWithin n at) _ _ (λ _. tt) λ g.
-    both-eq _ _ (FrameWithin n at) _ _ (λ _. tt) λ _.
-    both-eq _ _ (FrameWithin n at) _ _ (λ _. (omega arith, omega arith)) (λ _. tt)
+-- what holds of both ways of a plain frame, by what led to each
+pub plain-ways : (n at len kind want : ℕ) (P : Frame → Type 0) → P (Frame.Stop 5) → P (Frame.Stop 6) → P (Frame.Stop 7)
+    → (2 ≤ len → len ≤ 29 → at + 2 + len ≤ n → (want ≡ 0 → ⊥) → len ≡ want → P (Frame.Body Where.Plain kind (at + 2 + len)))
+    → P (plainOf n at len kind want)
+unfolding plainOf
+plain-ways n at len kind want P five six seven body =
+    both-lt _ _ P _ _ (λ _. five) λ _.
+    both-lt _ _ P _ _ (λ _. six) λ h.
+    both-lt _ _ P _ _ (λ _. six) λ i.
+    both-lt _ _ P _ _ (λ _. five) λ g.
+    both-eq _ _ P _ _ (λ _. seven) λ z.
+    both-eq _ _ P _ _ (λ e. body h i g z e) (λ _. six)
+
+-- and of a frame of any kind: where it stops, it stops with 5, 6 or 7; else it is a plain frame, or holds one
+pub frame-ways : (s : List ℕ) (at : ℕ) (P : Frame → Type 0) → P (Frame.Stop 5) → P (Frame.Stop 6) → P (Frame.Stop 7)
+    → (at + 4 ≤ length s → (leAt 2 s (at + 2) ≡ 7 → ⊥) → P (plainFrame s at))
+    → (at + 4 ≤ length s → leAt 2 s (at + 2) ≡ 7 → 8 ≤ leAt 2 s at → leAt 2 s at ≤ 35 → at + 2 + leAt 2 s at ≤ length s → leAt 2 s (at + 6) + 6 ≡ leAt 2 s at
+    → P (inSlot (leAt 2 s (at + 4)) (plainFrame s (at + 6))))
+    → P (frameAt s at)
+unfolding frameAt slottedFrame kindlessOf outerOf ifEq ifSo
+frame-ways s at P five six seven plain slotted =
+    both-lt _ _ P _ _ (λ _. kindless) λ h.
+    both-eq _ _ P _ _ (λ k. outer h k) (λ k. plain h k)
+  where
+    Q : ℕ → Type 0
+    Q n = P (Frame.Stop n)
+
+    kindless : Q (kindlessOf (length s) at (leAt 2 s at))
+    kindless =
+        both-lt _ _ Q _ _ (λ _. five) λ _.
+        both-lt _ _ Q _ _ (λ _. six) λ _.
+        both-lt _ _ Q _ _ (λ _. six) (λ _. five)
+
+    R : ℕ → Type 0
+    R n = P (ifEq n 0 (inSlot (leAt 2 s (at + 4)) (plainFrame s (at + 6))) (Frame.Stop n))
+
+    six-stops : R 6
+    six-stops = six
+
+    five-stops : R 5
+    five-stops = five
+
+    goes : P (inSlot (leAt 2 s (at + 4)) (plainFrame s (at + 6))) → R 0
+    goes p = p
+
+    outer : at + 4 ≤ length s → leAt 2 s (at + 2) ≡ 7 → R (outerOf (length s) at (leAt 2 s at) (leAt 2 s (at + 6)))
+    outer h k =
+        both-lt _ _ R _ _ (λ _. six-stops) λ _.
+        both-lt _ _ R _ _ (λ _. six-stops) λ u.
+        both-lt _ _ R _ _ (λ _. five-stops) λ v.
+        both-lt _ _ R _ _ (λ _. six-stops) λ x.
+        both-eq _ _ R _ _ (λ y. goes (slotted h k x u v y)) (λ _. six-stops)
+
+plain-within : (s : List ℕ) (at : ℕ) → FrameWithin (length s) at (plainFrame s at)
+unfolding plainFrame
+plain-within s at =
+    plain-ways _ at _ _ _ (FrameWithin (length s) at) tt tt tt (λ a b c d e. (omega (arith, a), c))
+
+-- inside a record of kind 7, which begins 6 bytes before
+inside-within : (n at i : ℕ) (f : Frame) → FrameWithin n (at + 6) f → FrameWithin n at (inSlot i f)
+inside-within n at i (Frame.Stop k) h = tt
+inside-within n at i (Frame.Body w kind next) h = (omega (arith, h .0), h .1)
+
+frame-within : (s : List ℕ) (at : ℕ) → FrameWithin (length s) at (frameAt s at)
+frame-within s at =
+    frame-ways s at (FrameWithin (length s) at) tt tt tt (λ _ _. plain-within s at)
+    (λ _ _ _ _ _ _. inside-within (length s) at (leAt 2 s (at + 4)) (plainFrame s (at + 6)) (plain-within s (at + 6)))
 
 by-frame : (s : List ℕ) (at : ℕ) (f : Frame) → FrameWithin (length s) at f → Within (length s) at (readBy s at f)
 by-frame s at (Frame.Stop k) h = tt
-by-frame s at (Frame.Body kind next) h = h
+by-frame s at (Frame.Body w kind next) h = h
 
 pub read-within : (s : List ℕ) (at : ℕ) → Within (length s) at (readAt s at)
-unfolding readAt frameAt
-read-within s at =
-    both-le _ _ (Within (length s) at) _ _ (λ _. tt) (λ _. by-frame s at (frameAt s at) (frame-within (length s) at _ _ _))
+unfolding readAt
+read-within s at = both-le _ _ (Within (length s) at) _ _ (λ _. tt) (λ _. by-frame s at (frameAt s at) (frame-within s at))

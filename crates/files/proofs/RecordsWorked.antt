@@ -14,12 +14,13 @@ use Rattle.rows.specs.declared.Event.the-variants.{Opening, Ask, Received, From
 use Rattle.rows.specs.declared.Nature.the-variants.{National, International}
 use Rattle.rows.specs.declared.Number.{Number}
 use Rattle.files.specs.Bodies.{natureOf, countOf, openingAt, askAt, componentOf, numberIf, messageAt, accessAt, timeAt, eventAt, readAt, headOf}
-use Rattle.files.specs.Bodies.{recordOf}
+use Rattle.files.specs.Bodies.{recordOf, slotHead, slottedOf, entryOf, plainAt}
 use Rattle.files.specs.Bytes.{leAt, leOf}
 use Rattle.files.specs.Fields.{sizeOf, valuesAt, bytesOf}
-use Rattle.files.specs.Frames.{lengthOf, frameOf, frameAt}
-use Rattle.files.specs.Write.{writtenOf, leftOf, givesBack, numberWith}
+use Rattle.files.specs.Frames.{lengthOf, plainOf, plainFrame, kindlessOf, outerOf, slottedFrame, frameAt}
+use Rattle.files.specs.Write.{writtenOf, leftOf, writtenAt, leftAt, givesBack, slotGives, slotLeaves, numberWith}
 use Rattle.files.specs.declared.Read.{Read}
+use Rattle.files.specs.declared.Where.the-variants.{Plain, Slot}
 use Rattle.files.specs.declared.Written.the-variants.{Whole, BadField, NoRoom}
 
 own : Number
@@ -98,34 +99,34 @@ time-bytes = refl
 
 -- ---- what is read of it, at a place with bytes around it
 
-opening-read : readAt (99 ∷ 13 ∷ 0 ∷ 1 ∷ 0 ∷ 0 ∷ 8 ∷ 7 ∷ 20 ∷ 176 ∷ 84 ∷ 0 ∷ 0 ∷ 0 ∷ 0 ∷ 0 ∷ 99 ∷ []) 1 ≡ Read.Got (Opening 0 8 own) 16
-unfolding own readAt frameAt frameOf lengthOf eventAt openingAt numberIf natureOf countOf sizeOf valuesAt leAt ifLt ifLe ifEq ifSo
+opening-read : readAt (99 ∷ 13 ∷ 0 ∷ 1 ∷ 0 ∷ 0 ∷ 8 ∷ 7 ∷ 20 ∷ 176 ∷ 84 ∷ 0 ∷ 0 ∷ 0 ∷ 0 ∷ 0 ∷ 99 ∷ []) 1 ≡ Read.Got Plain (Opening 0 8 own) 16
+unfolding own readAt frameAt plainFrame plainOf lengthOf eventAt openingAt numberIf natureOf countOf sizeOf valuesAt leAt ifLt ifLe ifEq ifSo
 opening-read = refl
 
-request-read : readAt (99 ∷ 12 ∷ 0 ∷ 2 ∷ 0 ∷ 1 ∷ 7 ∷ 43 ∷ 176 ∷ 84 ∷ 0 ∷ 0 ∷ 0 ∷ 0 ∷ 0 ∷ 99 ∷ []) 1 ≡ Read.Got (Ask 1 called) 15
-unfolding called readAt frameAt frameOf lengthOf eventAt askAt numberIf natureOf countOf sizeOf valuesAt leAt ifLt ifLe ifEq ifSo
+request-read : readAt (99 ∷ 12 ∷ 0 ∷ 2 ∷ 0 ∷ 1 ∷ 7 ∷ 43 ∷ 176 ∷ 84 ∷ 0 ∷ 0 ∷ 0 ∷ 0 ∷ 0 ∷ 99 ∷ []) 1 ≡ Read.Got Plain (Ask 1 called) 15
+unfolding called readAt frameAt plainFrame plainOf lengthOf eventAt askAt numberIf natureOf countOf sizeOf valuesAt leAt ifLt ifLe ifEq ifSo
 request-read = refl
 
-abroad-read : readAt (99 ∷ 12 ∷ 0 ∷ 2 ∷ 0 ∷ 1 ∷ 135 ∷ 43 ∷ 176 ∷ 84 ∷ 0 ∷ 0 ∷ 0 ∷ 0 ∷ 0 ∷ 99 ∷ []) 1 ≡ Read.Got (Ask 1 abroad) 15
-unfolding abroad readAt frameAt frameOf lengthOf eventAt askAt numberIf natureOf countOf sizeOf valuesAt leAt ifLt ifLe ifEq ifSo
+abroad-read : readAt (99 ∷ 12 ∷ 0 ∷ 2 ∷ 0 ∷ 1 ∷ 135 ∷ 43 ∷ 176 ∷ 84 ∷ 0 ∷ 0 ∷ 0 ∷ 0 ∷ 0 ∷ 99 ∷ []) 1 ≡ Read.Got Plain (Ask 1 abroad) 15
+unfolding abroad readAt frameAt plainFrame plainOf lengthOf eventAt askAt numberIf natureOf countOf sizeOf valuesAt leAt ifLt ifLe ifEq ifSo
 abroad-read = refl
 
 message-read : readAt
     (99 ∷ 29 ∷ 0 ∷ 3 ∷ 0 ∷ 5 ∷ 0 ∷ 1 ∷ 3 ∷ 127 ∷ 143 ∷ 121 ∷ 223 ∷ 13 ∷ 134 ∷ 72 ∷ 112 ∷ 0 ∷ 0 ∷ 7 ∷ 43 ∷ 176 ∷ 84 ∷ 0 ∷ 0 ∷ 0 ∷ 0 ∷ 0 ∷ 120 ∷ 86 ∷ 52 ∷ 18 ∷ 99 ∷ []) 1
-    ≡ Read.Got (message 5 0 (Invoke 3) 127 long called 305419896) 32
-unfolding message long called readAt frameAt frameOf lengthOf eventAt messageAt componentOf numberIf natureOf countOf sizeOf valuesAt leAt ifLt ifLe ifEq ifSo
+    ≡ Read.Got Plain (message 5 0 (Invoke 3) 127 long called 305419896) 32
+unfolding message long called readAt frameAt plainFrame plainOf lengthOf eventAt messageAt componentOf numberIf natureOf countOf sizeOf valuesAt leAt ifLt ifLe ifEq ifSo
 message-read = refl
 
-access-read : readAt (99 ∷ 4 ∷ 0 ∷ 4 ∷ 0 ∷ 2 ∷ 12 ∷ 99 ∷ []) 1 ≡ Read.Got (FromAccess 2 12) 7
-unfolding readAt frameAt frameOf lengthOf eventAt accessAt sizeOf valuesAt leAt ifLt ifLe ifEq ifSo
+access-read : readAt (99 ∷ 4 ∷ 0 ∷ 4 ∷ 0 ∷ 2 ∷ 12 ∷ 99 ∷ []) 1 ≡ Read.Got Plain (FromAccess 2 12) 7
+unfolding readAt frameAt plainFrame plainOf lengthOf eventAt accessAt sizeOf valuesAt leAt ifLt ifLe ifEq ifSo
 access-read = refl
 
-expiry-read : readAt (99 ∷ 2 ∷ 0 ∷ 5 ∷ 0 ∷ 99 ∷ []) 1 ≡ Read.Got Expiry 5
-unfolding readAt frameAt frameOf lengthOf eventAt sizeOf valuesAt leAt ifLt ifLe ifEq ifSo
+expiry-read : readAt (99 ∷ 2 ∷ 0 ∷ 5 ∷ 0 ∷ 99 ∷ []) 1 ≡ Read.Got Plain Expiry 5
+unfolding readAt frameAt plainFrame plainOf lengthOf eventAt sizeOf valuesAt leAt ifLt ifLe ifEq ifSo
 expiry-read = refl
 
-time-read : readAt (99 ∷ 6 ∷ 0 ∷ 6 ∷ 0 ∷ 60 ∷ 0 ∷ 0 ∷ 0 ∷ 99 ∷ []) 1 ≡ Read.Got (Time 60) 9
-unfolding readAt frameAt frameOf lengthOf eventAt timeAt sizeOf valuesAt leAt ifLt ifLe ifEq ifSo
+time-read : readAt (99 ∷ 6 ∷ 0 ∷ 6 ∷ 0 ∷ 60 ∷ 0 ∷ 0 ∷ 0 ∷ 99 ∷ []) 1 ≡ Read.Got Plain (Time 60) 9
+unfolding readAt frameAt plainFrame plainOf lengthOf eventAt timeAt sizeOf valuesAt leAt ifLt ifLe ifEq ifSo
 time-read = refl
 
 -- ---- what a host in C passes
@@ -193,3 +194,103 @@ first-refused = (refl, refl, refl, refl, refl, refl)
 fields-in-range : (writtenOf (message 5 0 (Error 255) 64 absent absent 4294967295) [] ≡ NoRoom) × (writtenOf (FromAccess 2 255) [] ≡ NoRoom)
 unfolding message writtenOf recordOf headOf bytesOf sizeOf leOf ifLt ifSo
 fields-in-range = (refl, refl)
+
+-- ---- records of kind 7. 02 #107: "two bytes of slot, then a whole inner record of kind 1 to 6"
+
+-- sixty seconds at slot 5; the shortest, at a slot of two bytes; the longest
+slotted-bytes : (entryOf (Slot 5) (Time 60) ≡ 12 ∷ 0 ∷ 7 ∷ 0 ∷ 5 ∷ 0 ∷ 6 ∷ 0 ∷ 6 ∷ 0 ∷ 60 ∷ 0 ∷ 0 ∷ 0 ∷ [])
+    × (entryOf (Slot 300) Expiry ≡ 8 ∷ 0 ∷ 7 ∷ 0 ∷ 44 ∷ 1 ∷ 2 ∷ 0 ∷ 5 ∷ 0 ∷ [])
+unfolding slottedOf slotHead recordOf headOf bytesOf sizeOf leOf
+slotted-bytes = (refl, refl)
+
+longest-slotted-bytes : entryOf (Slot 5) (message 5 0 (Invoke 3) 127 long called 305419896)
+    ≡ 35 ∷ 0 ∷ 7 ∷ 0 ∷ 5 ∷ 0 ∷ 29 ∷ 0 ∷ 3 ∷ 0 ∷ 5 ∷ 0 ∷ 1 ∷ 3 ∷ 127 ∷ 143 ∷ 121 ∷ 223 ∷ 13 ∷ 134 ∷ 72 ∷ 112 ∷ 0 ∷ 0 ∷ 7 ∷ 43 ∷ 176 ∷ 84 ∷ 0 ∷ 0 ∷ 0 ∷ 0 ∷ 0 ∷ 120 ∷ 86 ∷ 52 ∷ 18 ∷ []
+unfolding message long called slottedOf slotHead recordOf headOf bytesOf sizeOf leOf
+longest-slotted-bytes = refl
+
+-- read at a place with bytes around them
+slotted-read : (readAt (99 ∷ 12 ∷ 0 ∷ 7 ∷ 0 ∷ 5 ∷ 0 ∷ 6 ∷ 0 ∷ 6 ∷ 0 ∷ 60 ∷ 0 ∷ 0 ∷ 0 ∷ 99 ∷ []) 1 ≡ Read.Got (Slot 5) (Time 60) 15)
+    × (readAt (99 ∷ 8 ∷ 0 ∷ 7 ∷ 0 ∷ 44 ∷ 1 ∷ 2 ∷ 0 ∷ 5 ∷ 0 ∷ 99 ∷ []) 1 ≡ Read.Got (Slot 300) Expiry 11)
+unfolding readAt frameAt plainFrame plainOf slottedFrame outerOf kindlessOf lengthOf eventAt timeAt sizeOf valuesAt leAt ifLt ifLe ifEq ifSo
+slotted-read = (refl, refl)
+
+longest-slotted-read : readAt
+    (35 ∷ 0 ∷ 7 ∷ 0 ∷ 5 ∷ 0 ∷ 29 ∷ 0 ∷ 3 ∷ 0 ∷ 5 ∷ 0 ∷ 1 ∷ 3 ∷ 127 ∷ 143 ∷ 121 ∷ 223 ∷ 13 ∷ 134 ∷ 72 ∷ 112 ∷ 0 ∷ 0 ∷ 7 ∷ 43 ∷ 176 ∷ 84 ∷ 0 ∷ 0 ∷ 0 ∷ 0 ∷ 0 ∷ 120 ∷ 86 ∷ 52 ∷ 18 ∷ []) 0
+    ≡ Read.Got (Slot 5) (message 5 0 (Invoke 3) 127 long called 305419896) 37
+unfolding message long called readAt frameAt plainFrame plainOf slottedFrame outerOf lengthOf eventAt messageAt componentOf numberIf natureOf countOf sizeOf valuesAt leAt ifLt ifLe ifEq ifSo
+longest-slotted-read = refl
+
+-- "6 if the inner length doesn't fill it": too short; too long, which is not 5; and before 7
+not-filled : (readAt (9 ∷ 0 ∷ 7 ∷ 0 ∷ 5 ∷ 0 ∷ 2 ∷ 0 ∷ 5 ∷ 0 ∷ 99 ∷ []) 0 ≡ Read.Stop 6)
+    × (readAt (8 ∷ 0 ∷ 7 ∷ 0 ∷ 5 ∷ 0 ∷ 3 ∷ 0 ∷ 5 ∷ 0 ∷ 99 ∷ []) 0 ≡ Read.Stop 6)
+    × (readAt (9 ∷ 0 ∷ 7 ∷ 0 ∷ 5 ∷ 0 ∷ 2 ∷ 0 ∷ 8 ∷ 0 ∷ 99 ∷ []) 0 ≡ Read.Stop 6)
+unfolding readAt frameAt plainFrame plainOf slottedFrame outerOf kindlessOf lengthOf eventAt timeAt sizeOf valuesAt leAt ifLt ifLe ifEq ifSo
+not-filled = (refl, refl, refl)
+
+-- "then 7": none of 1 to 6, and 7 is none of them; "then 6 for the kind": an expiry of three bytes
+inner-kind : (readAt (8 ∷ 0 ∷ 7 ∷ 0 ∷ 5 ∷ 0 ∷ 2 ∷ 0 ∷ 8 ∷ 0 ∷ []) 0 ≡ Read.Stop 7)
+    × (readAt (8 ∷ 0 ∷ 7 ∷ 0 ∷ 5 ∷ 0 ∷ 2 ∷ 0 ∷ 7 ∷ 0 ∷ []) 0 ≡ Read.Stop 7)
+    × (readAt (16 ∷ 0 ∷ 7 ∷ 0 ∷ 5 ∷ 0 ∷ 10 ∷ 0 ∷ 7 ∷ 0 ∷ 5 ∷ 0 ∷ 2 ∷ 0 ∷ 5 ∷ 0 ∷ 0 ∷ 0 ∷ []) 0 ≡ Read.Stop 7)
+    × (readAt (9 ∷ 0 ∷ 7 ∷ 0 ∷ 5 ∷ 0 ∷ 3 ∷ 0 ∷ 5 ∷ 0 ∷ 0 ∷ []) 0 ≡ Read.Stop 6)
+unfolding readAt frameAt plainFrame plainOf slottedFrame outerOf kindlessOf lengthOf eventAt timeAt sizeOf valuesAt leAt ifLt ifLe ifEq ifSo
+inner-kind = (refl, refl, refl, refl)
+
+-- "its length is 8 to 35": 36 is 6 whatever follows, and so is 7, if its bytes are there
+slotted-lengths : (readAt (36 ∷ 0 ∷ 7 ∷ 0 ∷ []) 0 ≡ Read.Stop 6)
+    × (readAt (36 ∷ 0 ∷ []) 0 ≡ Read.Stop 6)
+    × (readAt (7 ∷ 0 ∷ 7 ∷ 0 ∷ 5 ∷ 0 ∷ 1 ∷ 0 ∷ 5 ∷ []) 0 ≡ Read.Stop 6)
+    × (readAt (7 ∷ 0 ∷ 7 ∷ 0 ∷ 5 ∷ 0 ∷ []) 0 ≡ Read.Stop 5)
+unfolding readAt frameAt plainFrame plainOf slottedFrame outerOf kindlessOf lengthOf eventAt timeAt sizeOf valuesAt leAt ifLt ifLe ifEq ifSo
+slotted-lengths = (refl, refl, refl, refl)
+
+-- "30 to 35 with another kind stays 6", an unknown one too, also where bytes lack; "with the kind cut off 5"; kind 7 with bytes lacking is 5
+longer-kinds : (readAt (30 ∷ 0 ∷ 3 ∷ 0 ∷ []) 0 ≡ Read.Stop 6)
+    × (readAt (35 ∷ 0 ∷ 8 ∷ 0 ∷ []) 0 ≡ Read.Stop 6)
+    × (readAt (35 ∷ 0 ∷ 7 ∷ []) 0 ≡ Read.Stop 5)
+    × (readAt (30 ∷ 0 ∷ []) 0 ≡ Read.Stop 5)
+    × (readAt (35 ∷ 0 ∷ 7 ∷ 0 ∷ 5 ∷ 0 ∷ []) 0 ≡ Read.Stop 5)
+    × (readAt (8 ∷ 0 ∷ 7 ∷ 0 ∷ 5 ∷ 0 ∷ 2 ∷ 0 ∷ 5 ∷ []) 0 ≡ Read.Stop 5)
+unfolding readAt frameAt plainFrame plainOf slottedFrame outerOf kindlessOf lengthOf eventAt timeAt sizeOf valuesAt leAt ifLt ifLe ifEq ifSo
+longer-kinds = (refl, refl, refl, refl, refl, refl)
+
+-- a plain record's refusals stay as they were: a byte of length alone; 1; 29 with bytes lacking; an unknown kind
+plain-lengths : (readAt (6 ∷ []) 0 ≡ Read.Stop 5)
+    × (readAt (1 ∷ 0 ∷ []) 0 ≡ Read.Stop 6)
+    × (readAt (29 ∷ 0 ∷ 3 ∷ 0 ∷ []) 0 ≡ Read.Stop 5)
+    × (readAt (2 ∷ 0 ∷ 8 ∷ 0 ∷ []) 0 ≡ Read.Stop 7)
+unfolding readAt frameAt plainFrame plainOf slottedFrame outerOf kindlessOf lengthOf eventAt timeAt sizeOf valuesAt leAt ifLt ifLe ifEq ifSo
+plain-lengths = (refl, refl, refl, refl)
+
+-- where plain records alone are read, 7 is an unknown kind
+slotted-not-plain : plainAt (8 ∷ 0 ∷ 7 ∷ 0 ∷ 5 ∷ 0 ∷ 2 ∷ 0 ∷ 5 ∷ 0 ∷ []) 0 ≡ Read.Stop 7
+unfolding plainAt plainFrame plainOf lengthOf leAt ifLt ifLe ifEq ifSo
+slotted-not-plain = refl
+
+-- just room enough; a byte more, which stays; a byte less: 8, and nothing is written; no room for the six bytes before it
+slotted-written : (writtenAt 5 Expiry (9 ∷ 9 ∷ 9 ∷ 9 ∷ 9 ∷ 9 ∷ 9 ∷ 9 ∷ 9 ∷ 9 ∷ []) ≡ Whole 10)
+    × (leftAt 5 Expiry (9 ∷ 9 ∷ 9 ∷ 9 ∷ 9 ∷ 9 ∷ 9 ∷ 9 ∷ 9 ∷ 9 ∷ []) ≡ 8 ∷ 0 ∷ 7 ∷ 0 ∷ 5 ∷ 0 ∷ 2 ∷ 0 ∷ 5 ∷ 0 ∷ [])
+    × (leftAt 5 Expiry (9 ∷ 9 ∷ 9 ∷ 9 ∷ 9 ∷ 9 ∷ 9 ∷ 9 ∷ 9 ∷ 9 ∷ 9 ∷ []) ≡ 8 ∷ 0 ∷ 7 ∷ 0 ∷ 5 ∷ 0 ∷ 2 ∷ 0 ∷ 5 ∷ 0 ∷ 9 ∷ [])
+    × (writtenAt 5 Expiry (9 ∷ 9 ∷ 9 ∷ 9 ∷ 9 ∷ 9 ∷ 9 ∷ 9 ∷ 9 ∷ []) ≡ NoRoom)
+    × (leftAt 5 Expiry (9 ∷ 9 ∷ 9 ∷ 9 ∷ 9 ∷ 9 ∷ 9 ∷ 9 ∷ 9 ∷ []) ≡ 9 ∷ 9 ∷ 9 ∷ 9 ∷ 9 ∷ 9 ∷ 9 ∷ 9 ∷ 9 ∷ [])
+    × (writtenAt 5 Expiry (9 ∷ 9 ∷ 9 ∷ 9 ∷ 9 ∷ []) ≡ NoRoom)
+unfolding writtenAt leftAt slottedOf slotHead recordOf headOf bytesOf sizeOf leOf ifLt ifSo
+slotted-written = (refl, refl, refl, refl, refl, refl)
+
+-- 3 comes before 8, with the ordinal in the inner body; no slot of two bytes is refused, since it is the board that says 19
+slotted-refused : (writtenAt 5 (Time 86401) [] ≡ BadField 1)
+    × (writtenAt 5 (Opening 0 0 absent) [] ≡ BadField 3)
+    × (writtenAt 65535 Expiry (9 ∷ 9 ∷ 9 ∷ 9 ∷ 9 ∷ 9 ∷ 9 ∷ 9 ∷ 9 ∷ 9 ∷ []) ≡ Whole 10)
+unfolding writtenAt slottedOf slotHead recordOf headOf bytesOf sizeOf leOf ifLt ifSo
+slotted-refused = (refl, refl, refl)
+
+-- what a host in C hands over: an expiry; nothing; a record that cannot be read, which leaves the buffer as it was
+handed-over : (slotGives (plainAt (2 ∷ 0 ∷ 5 ∷ 0 ∷ []) 0) 5 (9 ∷ 9 ∷ 9 ∷ 9 ∷ 9 ∷ 9 ∷ 9 ∷ 9 ∷ 9 ∷ 9 ∷ []) ≡ 0)
+    × (slotLeaves (plainAt (2 ∷ 0 ∷ 5 ∷ 0 ∷ []) 0) 5 (9 ∷ 9 ∷ 9 ∷ 9 ∷ 9 ∷ 9 ∷ 9 ∷ 9 ∷ 9 ∷ 9 ∷ []) ≡ 8 ∷ 0 ∷ 7 ∷ 0 ∷ 5 ∷ 0 ∷ 2 ∷ 0 ∷ 5 ∷ 0 ∷ [])
+    × (slotGives (plainAt [] 0) 5 [] ≡ 5)
+    × (slotGives (plainAt (2 ∷ 0 ∷ 7 ∷ 0 ∷ []) 0) 5 [] ≡ 7)
+    × (slotGives (plainAt (3 ∷ 0 ∷ 5 ∷ 0 ∷ 0 ∷ []) 0) 5 [] ≡ 6)
+    × (slotLeaves (plainAt (3 ∷ 0 ∷ 5 ∷ 0 ∷ 0 ∷ []) 0) 5 (9 ∷ 9 ∷ []) ≡ 9 ∷ 9 ∷ [])
+    × (slotGives (plainAt (2 ∷ 0 ∷ 5 ∷ 0 ∷ []) 0) 5 [] ≡ 8)
+    × (slotGives (plainAt (6 ∷ 0 ∷ 6 ∷ 0 ∷ 129 ∷ 81 ∷ 1 ∷ 0 ∷ []) 0) 5 [] ≡ 259)
+unfolding plainAt plainFrame plainOf lengthOf eventAt timeAt valuesAt leAt ifLe ifEq writtenAt leftAt slottedOf slotHead recordOf headOf bytesOf sizeOf leOf ifLt ifSo
+handed-over = (refl, refl, refl, refl, refl, refl, refl, refl)

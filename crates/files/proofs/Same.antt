@@ -8,13 +8,15 @@ use Prim.Native.Nat.{ℕ}
 use denote.Ref.{RefT, now}
 use Rattle.text.proofs.Same.{same}
 use Rattle.rows.specs.declared.Event.{Event}
-use Rattle.files.specs.Bodies.{readAt}
+use Rattle.files.specs.Bodies.{readAt, plainAt}
 use Rattle.files.specs.Fit.{answers, leaves}
 use Rattle.files.specs.Places.{placeAfter}
 use Rattle.files.specs.Words.{Says}
-use Rattle.files.specs.Write.{writtenOf, leftOf, givesBack}
+use Rattle.files.specs.Write.{writtenOf, leftOf, writtenAt, leftAt, givesBack, slotGives, slotLeaves}
 use Rattle.files.specs.declared.Read.{Read}
 use Rattle.files.specs.declared.Reader.{Reader}
+use Rattle.files.specs.declared.Where.{Where}
+use Rattle.files.specs.declared.Where.the-variants.{Plain, Slot}
 use Rattle.files.specs.declared.Written.{Written}
 
 -- What `rev_listing` and `rev_dump` say, t being the listing or the dump: the number given back, and the bytes that the buffer then holds.
@@ -55,25 +57,41 @@ pub moved-same : (before : Reader) {f f′ : Read} {after after′ : Reader} →
     Moved before f after → Moved before f′ after′ → (f ≡ f′) × (after ≡ after′)
 moved-same before p q = (same (p .0) (q .0), reader-is (same (p .1) (q .1)) (same (p .2) (q .2)))
 
--- What `write_event` says: its answer, and the bytes that the buffer then holds.
-abbrev pub Wrote : Event → List ℕ → Written → List ℕ → Type 0
-Wrote e old w new = (w ≡ writtenOf e old) × (new ≡ leftOf e old)
+-- What `write_event` says of a plain record, and `write_at_slot` of one of kind 7: the answer, and the bytes that the buffer then holds.
+abbrev pub answeredOf : Where → Event → List ℕ → Written
+answeredOf Plain e old = writtenOf e old
+answeredOf (Slot i) e old = writtenAt i e old
+
+abbrev pub heldOf : Where → Event → List ℕ → List ℕ
+heldOf Plain e old = leftOf e old
+heldOf (Slot i) e old = leftAt i e old
+
+abbrev pub Wrote : Where → Event → List ℕ → Written → List ℕ → Type 0
+Wrote w e old a new = (a ≡ answeredOf w e old) × (new ≡ heldOf w e old)
 
 -- What the `rev_write_` functions say of their event: the number and the ordinal of that answer, and the same bytes.
-abbrev pub Numbered : Event → List ℕ → ℕ → List ℕ → Type 0
-Numbered e old r new = (r ≡ givesBack (writtenOf e old)) × (new ≡ leftOf e old)
+abbrev pub Numbered : Where → Event → List ℕ → ℕ → List ℕ → Type 0
+Numbered w e old r new = (r ≡ givesBack (answeredOf w e old)) × (new ≡ heldOf w e old)
 
--- For one event and one buffer there is one answer, one number, and one content of the buffer after it.
-pub wrote-same : (e : Event) (old : List ℕ) {w w′ : Written} {new new′ : List ℕ} →
-    Wrote e old w new → Wrote e old w′ new′ → (w ≡ w′) × (new ≡ new′)
-wrote-same e old p q = both-same p q
+-- What `rev_write_slot` says of the bytes that are handed over for the record inside.
+abbrev pub HandedOver : List ℕ → ℕ → List ℕ → ℕ → List ℕ → Type 0
+HandedOver inner i old r new = (r ≡ slotGives (plainAt inner 0) i old) × (new ≡ slotLeaves (plainAt inner 0) i old)
 
-pub numbered-same : (e : Event) (old : List ℕ) {r r′ : ℕ} {new new′ : List ℕ} →
-    Numbered e old r new → Numbered e old r′ new′ → (r ≡ r′) × (new ≡ new′)
-numbered-same e old p q = both-same p q
+-- For one event, one slot and one buffer there is one answer, one number, and one content of the buffer after it.
+pub wrote-same : (w : Where) (e : Event) (old : List ℕ) {a a′ : Written} {new new′ : List ℕ} →
+    Wrote w e old a new → Wrote w e old a′ new′ → (a ≡ a′) × (new ≡ new′)
+wrote-same w e old p q = both-same p q
 
--- What `says` says is `Says` (Words.antt). For one line and one event there is one answer.
-pub says-same : {line : List ℕ} {e : Event} (r r′ : Bool) → Says line e r → Says line e r′ → r ≡ r′
+pub numbered-same : (w : Where) (e : Event) (old : List ℕ) {r r′ : ℕ} {new new′ : List ℕ} →
+    Numbered w e old r new → Numbered w e old r′ new′ → (r ≡ r′) × (new ≡ new′)
+numbered-same w e old p q = both-same p q
+
+pub handed-over-same : (inner : List ℕ) (i : ℕ) (old : List ℕ) {r r′ : ℕ} {new new′ : List ℕ} →
+    HandedOver inner i old r new → HandedOver inner i old r′ new′ → (r ≡ r′) × (new ≡ new′)
+handed-over-same inner i old p q = both-same p q
+
+-- What `says` says is `Says` (Words.antt). For one line, one event and one slot there is one answer.
+pub says-same : {line : List ℕ} {w : Where} {e : Event} (r r′ : Bool) → Says line w e r → Says line w e r′ → r ≡ r′
 says-same true true p q = refl
 says-same true false p q = sym (q .whole (p .right refl))
 says-same false true p q = p .whole (q .right refl)

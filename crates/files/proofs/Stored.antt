@@ -31,10 +31,10 @@ byte-small (x ∷ xs) zero h = h .0
 byte-small (x ∷ xs) (suc i) h = byte-small xs i (h .1)
 
 module _ (s : List ℕ) where
-  holds-left : (i : ℕ) (t u : List ℕ) → Holds s i (t ++ u) → Holds s i t
+  pub holds-left : (i : ℕ) (t u : List ℕ) → Holds s i (t ++ u) → Holds s i t
   holds-left i t u f j h = f j (let e = length-append t u in omega arith) ∙ List·getD-append t u 0 j h
 
-  holds-right : (i : ℕ) (t u : List ℕ) → Holds s i (t ++ u) → Holds s (i + length t) u
+  pub holds-right : (i : ℕ) (t u : List ℕ) → Holds s i (t ++ u) → Holds s (i + length t) u
   holds-right i t u f j h =
       ap (byteAt s) (add-assoc i (length t) j) ∙ f (length t + j) (let e = length-append t u in omega arith) ∙ getD-append-add t u j 0
 
@@ -117,7 +117,7 @@ fields-again (w ∷ ws) s i a h =
     ∙ sym (take-add w (sizeOf ws) (drop i s))
 
 -- the fields of a body are bytes
-bytes-join : (a b : List ℕ) → AllBytes a → AllBytes b → AllBytes (a ++ b)
+pub bytes-join : (a b : List ℕ) → AllBytes a → AllBytes b → AllBytes (a ++ b)
 bytes-join [] b g h = h
 bytes-join (x ∷ a) b g h = (g .0, bytes-join a b (g .1) h)
 

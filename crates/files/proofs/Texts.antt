@@ -7,13 +7,19 @@ use Prim.Native.Nat.{ℕ, _≤_, _<_}
 use Rattle.text.specs.Choose.{ifLt, ifSo}
 use Rattle.text.specs.Text.{Put}
 use Rattle.text.proofs.Cases.{yes-lt, no-lt, yes-so, no-so}
-use Rattle.text.proofs.Laws.{put-as, put-by}
+use Rattle.text.proofs.Laws.{put-none, put-as, put-by}
 use Rattle.rows.specs.declared.Act.{Act}
 use Rattle.rows.specs.declared.Note.{Note}
-use Rattle.files.specs.Lines.{actionText}
+use Rattle.files.specs.Lines.{slotText, actionText}
 
 pub action-by : (m : Note) (x y : Act) (a b : List ℕ) (i j : ℕ) → x ≡ y → Put a i (actionText m y) b j → Put a i (actionText m x) b j
 action-by m x y a b i j e p = put-by (actionText m) x y a b i j e p
+
+pub slot-shown : (r : Bool) (n : ℕ) (a b : List ℕ) (i j : ℕ) → r ≡ true → Put a i (slotText true n) b j → Put a i (slotText r n) b j
+slot-shown r n a b i j e p = put-by (λ (x : Bool). slotText x n) r true a b i j e p
+
+pub slot-hidden : (r : Bool) (n : ℕ) (a : List ℕ) (i : ℕ) → r ≡ false → Put a i (slotText r n) a i
+slot-hidden r n a i e = put-by (λ (x : Bool). slotText x n) r false a a i i e (put-none a i)
 
 pub put-below : (m n : ℕ) (a b s t : List ℕ) (i j : ℕ) → m < n → Put a i s b j → Put a i (ifLt m n s t) b j
 put-below m n a b s t i j h p = put-as (yes-lt m n s s t h refl) p

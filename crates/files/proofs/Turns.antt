@@ -1,23 +1,35 @@
 -- The loops over the records of a file: what they keep, and what one turn does to it.
 -- Assumes nothing.
 use mathlib.Core.Path.{_≡_, refl, sym, ap, _∙_}
+use mathlib.Core.Bool.{Bool, true, false, _||_}
 use mathlib.Core.List.{List, [], _∷_, _++_, append-assoc, append-nil}
 use Prim.Native.Nat.{ℕ, zero, suc, _+_, _*_, _-_, _≤_, _<_}
 use native.Mathlib.Omega.{arith}
-use lib.ListN.{length}
+use lib.Dec.{ltb}
+use lib.ListN.{length, getD, set, replicate}
 use Rattle.text.specs.Text.{Put, ascii}
 use Rattle.text.proofs.Cases.{yes-lt, no-lt, both-lt}
 use Rattle.text.proofs.Laws.{put-none, put-after, put-as}
 use Rattle.rows.specs.Step.{unopenedCall}
+use Rattle.board.specs.Row.{emptyRow}
 use Rattle.rows.specs.declared.Call.{Call}
 use Rattle.rows.specs.declared.Outcome.{Outcome}
 use Rattle.files.specs.Bodies.{readAt}
 use Rattle.files.specs.Dump.{placeText, placesText, dumpOf, longestPlace}
 use Rattle.files.specs.Lines.{numberedLine, recordText, longestRecord}
-use Rattle.files.specs.Listing.{answerOf, restOf, recordsOf, listingOf}
+use Rattle.files.specs.Listing.{slotFound, namesSlot, answerOf, rowBy, indexOf, restOf, recordsOf, listingBy, namesIn, namesSlots, listingOf}
 use Rattle.files.specs.Places.{placeAfter, placesFrom, placesOf}
 use Rattle.files.specs.declared.Read.{Read}
+use Rattle.files.proofs.Held.{Holds, holds-other, answered}
 use Rattle.files.proofs.Records.{Within, read-within}
+
+or-false : (b : Bool) → (b || false) ≡ b
+or-false true = refl
+or-false false = refl
+
+or-assoc : (a b c : Bool) → ((a || b) || c) ≡ (a || (b || c))
+or-assoc true b c = refl
+or-assoc false b c = refl
 
 -- ---- where a loop stands
 
@@ -35,7 +47,7 @@ onward : (n at : ℕ) (rd : Read) → Within n at rd → at < n → (at < placeA
 unfolding placeAfter
 onward n at Read.End w h = (h, omega arith)
 onward n at (Read.Stop k) w h = (h, omega arith)
-onward n at (Read.Got e next) w h = (omega (arith, w), w .1)
+onward n at (Read.Got acts e next) w h = (omega (arith, w), w .1)
 
 places-on : (k : ℕ) (s : List ℕ) (at : ℕ) → at < length s → at ∷ placesFrom k s (placeAfter (readAt s at) (length s)) ≡ placesFrom (suc k) s at
 unfolding placesFrom
@@ -77,23 +89,25 @@ so-start s out₀ to₀ most rest =
 
 -- one turn puts a piece more
 module _ (s : List ℕ) (at next : ℕ) (f : Read) (h : at < length s) (g : f ≡ readAt s at) (e : next ≡ placeAfter f (length s)) where
-  so-on : (out₀ whole piece out out′ : List ℕ) (to₀ most to to′ n : ℕ) (rest rest′ : List ℕ → List ℕ) → So s out₀ to₀ whole most rest out to at n
-      → Put out to piece out′ to′ → to′ ≤ to + most → ((ps : List ℕ) → piece ++ rest′ ps ≡ rest (at ∷ ps)) → So s out₀ to₀ whole most rest′ out′ to′ next (n + 1)
-  so-on out₀ whole piece out out′ to₀ most to to′ n rest rest′ i p m r = go (i .turns) refl
-    where
-      go : (k : ℕ) → i .turns ≡ k → So s out₀ to₀ whole most rest′ out′ to′ next (n + 1)
-      go zero t = absurd (omega (arith, i .stands .enough, t))
-      go (suc k) t =
-          let l : i .text ++ (piece ++ rest′ (placesFrom k s next)) ≡ whole =
-          ap (λ (x : List ℕ). i .text ++ x) (r (placesFrom k s next) ∙ ap rest (one-less s at next f h g e k) ∙ ap (λ (x : ℕ). rest (placesFrom x s at)) (sym t)) ∙ i .left in
-          record {
-            text = i .text ++ piece;
-            turns = k;
-            put = put-after p (i .put);
-            left = rw append-assoc l;
-            stands = steps s at next f h g e n k (rw t at (i .stands));
-            bound = omega (arith, m, i .bound);
-          }
+  so-step : (out₀ whole piece out out′ : List ℕ) (to₀ most to to′ n : ℕ) (rest rest′ : List ℕ → List ℕ) (i : So s out₀ to₀ whole most rest out to at n)
+      → Put out to piece out′ to′ → to′ ≤ to + most → ((ps : List ℕ) → piece ++ rest′ ps ≡ rest (at ∷ ps)) → (k : ℕ) → i .turns ≡ suc k
+      → So s out₀ to₀ whole most rest′ out′ to′ next (n + 1)
+  so-step out₀ whole piece out out′ to₀ most to to′ n rest rest′ i p m r k t =
+      let l : i .text ++ (piece ++ rest′ (placesFrom k s next)) ≡ whole =
+      ap (λ (x : List ℕ). i .text ++ x) (r (placesFrom k s next) ∙ ap rest (one-less s at next f h g e k) ∙ ap (λ (x : ℕ). rest (placesFrom x s at)) (sym t)) ∙ i .left in
+      record {
+        text = i .text ++ piece;
+        turns = k;
+        put = put-after p (i .put);
+        left = rw append-assoc l;
+        stands = steps s at next f h g e n k (rw t at (i .stands));
+        bound = omega (arith, m, i .bound);
+      }
+
+-- within the file there is a turn to come
+one-comes : (s : List ℕ) (at n k : ℕ) → at < length s → Stands s at n k → (j : ℕ) × (k ≡ suc j)
+one-comes s at n zero h i = absurd (omega (arith, i .enough))
+one-comes s at n (suc j) h i = (j, refl)
 
 -- after the last turn
 so-done : (s out₀ whole out : List ℕ) (to₀ most to at n : ℕ) (rest : List ℕ → List ℕ) (i : So s out₀ to₀ whole most rest out to at n) → length s ≤ at → i .text ++ rest [] ≡ whole
@@ -101,29 +115,82 @@ so-done s out₀ whole out to₀ most to at n rest i h = ap (λ (ps : List ℕ).
 
 -- ---- the listing
 
--- the answer to what was found, by what it is
-pub answer-by : (f g : Read) (c : Call) (o : Outcome) → f ≡ g → o ≡ answerOf g c → o ≡ answerOf f c
-answer-by f g c o e h = h ∙ ap (λ (r : Read). answerOf r c) (sym e)
+-- the row that the records before reached is held (Held.antt), and whether one of them named a slot is remembered
+pub record Listed (s : List ℕ) (shown : Bool) (out₀ : List ℕ) (to₀ : ℕ) (out : List ℕ) (to at n : ℕ) (named : Bool) (row : List Call) (held : ℕ) (call : Call) : Type 0 where
+  pub reached : List Call
+  pub holds : Holds reached row held call
+  pub so : So s out₀ to₀ (recordsOf s shown) longestRecord (restOf s shown n reached) out to at n
+  pub names : (named || namesIn s (placesFrom (so .turns) s at)) ≡ namesSlots s
 
-abbrev pub Listed : List ℕ → List ℕ → ℕ → List ℕ → ℕ → ℕ → ℕ → Call → Type 0
-Listed s out₀ to₀ out to at n c = So s out₀ to₀ (recordsOf s) longestRecord (restOf s n c) out to at n
+pub listed-start : (s : List ℕ) (shown : Bool) (out₀ : List ℕ) (to₀ : ℕ) (c : Call) → c ≡ unopenedCall → Listed s shown out₀ to₀ out₀ to₀ 0 0 false (replicate 65 c) 0 c
+unfolding recordsOf namesSlots emptyRow placesOf so-start
+listed-start s shown out₀ to₀ c e =
+    record {
+      reached = emptyRow;
+      holds = record { slots = refl; kept = ap (λ (x : Call). set (replicate 65 x) 0 x) e; there = omega arith };
+      so = so-start s out₀ to₀ longestRecord (restOf s shown 0 emptyRow);
+      names = refl;
+    }
 
-pub listed-start : (s out₀ : List ℕ) (to₀ : ℕ) (c : Call) → c ≡ unopenedCall → Listed s out₀ to₀ out₀ to₀ 0 0 c
-unfolding recordsOf
-listed-start s out₀ to₀ c e = rw e (so-start s out₀ to₀ longestRecord (restOf s 0 unopenedCall))
+-- the place of the row that is looked for is held already, or the call of another place is taken up
+pub record Found (s : List ℕ) (shown : Bool) (out₀ : List ℕ) (to₀ : ℕ) (out : List ℕ) (to at n : ℕ) (named : Bool) (index : ℕ) (row : List Call) (held : ℕ) (call : Call) : Type 0 where
+  pub listed : Listed s shown out₀ to₀ out to at n named row held call
+  pub index-held : held ≡ index
 
-pub listed-on : (s out₀ out out′ : List ℕ) (to₀ to to′ at next n : ℕ) (c : Call) (f : Read) (o : Outcome) → Listed s out₀ to₀ out to at n c → at < length s
-    → f ≡ readAt s at → o ≡ answerOf f c → Put out to (recordText (n + 1) o) out′ to′ → to′ ≤ to + longestRecord → next ≡ placeAfter f (length s)
-    → Listed s out₀ to₀ out′ to′ next (n + 1) (o .call)
-unfolding restOf
-listed-on s out₀ out out′ to₀ to to′ at next n c f o i h g d p m e =
-    so-on s at next f h g e out₀ (recordsOf s) (recordText (n + 1) o) out out′ to₀ longestRecord to to′ n (restOf s n c) (restOf s (n + 1) (o .call)) i p m (λ ps. rw (d, g))
+module _ {s : List ℕ} {shown : Bool} {out₀ out : List ℕ} {to₀ to at n : ℕ} {named : Bool} {row : List Call} {held : ℕ} {call : Call}
+    (l : Listed s shown out₀ to₀ out to at n named row held call) (index : ℕ) (row′ : List Call) (held′ : ℕ) (call′ : Call) where
+  pub found-here : index ≡ held → call′ ≡ call → row′ ≡ row → held′ ≡ held → Found s shown out₀ to₀ out to at n named index row′ held′ call′
+  found-here e f g h = rw (f, g, h) (record { listed = l; index-held = sym e })
 
-pub listed-done : (s old out₀ out out′ : List ℕ) (to₀ to at n r : ℕ) (c : Call) → Listed s out₀ to₀ out to at n c → length s ≤ at → Put old 0 (ascii "REV 1\n") out₀ to₀
-    → Put out to (numberedLine (ascii "END ") n) out′ r → Put old 0 (listingOf s) out′ r
-unfolding listingOf restOf
-listed-done s old out₀ out out′ to₀ to at n r c i h p l =
-    put-after (put-as (so-done s out₀ (recordsOf s) out to₀ longestRecord to at n (restOf s n c) i h) (put-after l (i .put))) p
+  pub found-there : (d : Call) → index < 65 → call′ ≡ getD (set row held call) index d → row′ ≡ set row held call → held′ ≡ index
+      → Found s shown out₀ to₀ out to at n named index row′ held′ call′
+  found-there d h e f g =
+      rw (e, f, g) (record { listed = record { reached = l .reached; holds = holds-other (l .holds) index d h; so = l .so; names = l .names }; index-held = refl })
+
+pub listed-on : (s : List ℕ) (shown : Bool) (out₀ out out′ : List ℕ) (to₀ to to′ at next n slot index : ℕ) (named named′ b names : Bool) (row : List Call) (held : ℕ) (call : Call) (f : Read) (o : Outcome)
+    → Found s shown out₀ to₀ out to at n named index row held call → at < length s
+    → f ≡ readAt s at → slot ≡ slotFound f → index ≡ indexOf slot → b ≡ ltb index 64 → o ≡ answerOf f b call
+    → names ≡ namesSlot f → named′ ≡ (named || names)
+    → Put out to (recordText (n + 1) shown slot o) out′ to′ → to′ ≤ to + longestRecord → next ≡ placeAfter f (length s)
+    → Listed s shown out₀ to₀ out′ to′ next (n + 1) named′ row held (o .call)
+unfolding restOf namesIn so-step
+listed-on s shown out₀ out out′ to₀ to to′ at next n slot index named named′ b names row held call f o i h g u v t d w x p m e =
+    let l = i .listed in
+    let k = answered (l .holds) f b o (i .index-held ∙ v ∙ ap indexOf u) (t ∙ ap (λ (j : ℕ). ltb j 64) (sym (i .index-held))) d in
+    let q : (ps : List ℕ) → recordText (n + 1) shown slot o ++ restOf s shown (n + 1) (rowBy f (l .reached)) ps ≡ restOf s shown n (l .reached) (at ∷ ps) =
+    λ ps. rw (u, k .0, g) in
+    let c = one-comes s at n (l .so .turns) h (l .so .stands) in
+    record {
+      reached = rowBy f (l .reached);
+      holds = k .1;
+      so = so-step s at next f h g e out₀ (recordsOf s shown) (recordText (n + 1) shown slot o) out out′ to₀ longestRecord to to′ n (restOf s shown n (l .reached)) (restOf s shown (n + 1) (rowBy f (l .reached))) (l .so) p m q (c .0) (c .1);
+      names =
+          ap (λ (b : Bool). b || namesIn s (placesFrom (c .0) s next)) (x ∙ ap (λ (b : Bool). named || b) (w ∙ ap namesSlot g))
+          ∙ or-assoc named (namesSlot (readAt s at)) (namesIn s (placesFrom (c .0) s next))
+          ∙ ap (λ (ps : List ℕ). named || namesIn s ps) (one-less s at next f h g e (c .0))
+          ∙ ap (λ (y : ℕ). named || namesIn s (placesFrom y s at)) (sym (c .1)) ∙ l .names;
+    }
+
+pub listed-done : (s old out₀ out out′ : List ℕ) (shown : Bool) (to₀ to at n r : ℕ) (named : Bool) (row : List Call) (held : ℕ) (call : Call) → Listed s shown out₀ to₀ out to at n named row held call
+    → length s ≤ at → Put old 0 (ascii "REV 1\n") out₀ to₀ → Put out to (numberedLine (ascii "END ") n) out′ r → Put old 0 (listingBy shown s) out′ r
+unfolding listingBy restOf
+listed-done s old out₀ out out′ shown to₀ to at n r named row held call i h p l =
+    put-after (put-as (so-done s out₀ (recordsOf s shown) out to₀ longestRecord to at n (restOf s shown n (i .reached)) (i .so) h) (put-after l (i .so .put))) p
+
+pub listed-names : (s out₀ out : List ℕ) (shown : Bool) (to₀ to at n : ℕ) (named : Bool) (row : List Call) (held : ℕ) (call : Call) → Listed s shown out₀ to₀ out to at n named row held call
+    → length s ≤ at → named ≡ namesSlots s
+unfolding namesIn
+listed-names s out₀ out shown to₀ to at n named row held call i h =
+    sym (or-false named) ∙ ap (λ (ps : List ℕ). named || namesIn s ps) (places-done (i .so .turns) s at h) ∙ i .names
+
+-- with slots if a record names one
+pub listed-length : (s : List ℕ) (shown : Bool) (n : ℕ) → shown ≡ namesSlots s → n ≡ 0 + length (listingBy shown s) → n ≡ length (listingOf s)
+unfolding listingOf
+listed-length s shown n e h = h ∙ omega (arith, ap (λ (b : Bool). length (listingBy b s)) e)
+
+pub listed-as : (s a c : List ℕ) (shown : Bool) (i j : ℕ) → shown ≡ namesSlots s → Put a i (listingBy shown s) c j → Put a i (listingOf s) c j
+unfolding listingOf
+listed-as s a c shown i j e p = put-as (ap (λ (b : Bool). listingBy b s) e) p
 
 -- ---- the dump
 
@@ -138,7 +205,8 @@ pub dumped-on : (s out₀ out out′ : List ℕ) (to₀ to to′ at next n : ℕ
     → Dumped s out₀ to₀ out′ to′ next (n + 1)
 unfolding placesText
 dumped-on s out₀ out out′ to₀ to to′ at next n f i h g p m e =
-    so-on s at next f h g e out₀ (placesText s 0 (placesOf s)) (placeText (n + 1) f at) out out′ to₀ longestPlace to to′ n (placesText s n) (placesText s (n + 1)) i p m (λ ps. rw g)
+    let c = one-comes s at n (i .turns) h (i .stands) in
+    so-step s at next f h g e out₀ (placesText s 0 (placesOf s)) (placeText (n + 1) f at) out out′ to₀ longestPlace to to′ n (placesText s n) (placesText s (n + 1)) i p m (λ ps. rw g) (c .0) (c .1)
 
 pub dumped-done : (s old out₀ out : List ℕ) (to₀ to at n k : ℕ) → Dumped s out₀ to₀ out to at n → length s ≤ at → k ≡ length (placesOf s) → Put old 0 (numberedLine (ascii "RECORDS ") k) out₀ to₀
     → Put old 0 (dumpOf s) out to

@@ -29,6 +29,7 @@ use Rattle.files.specs.Fields.{numberFields, sizeOf, bytesOf}
 use Rattle.files.specs.Lines.{actionText}
 use Rattle.files.specs.Messages.{numberText}
 use Rattle.files.specs.Write.{natureWith, numberWith}
+use Rattle.files.specs.declared.Where.the-variants.{Plain}
 use Rattle.files.proofs.Apart.{isMessage, NamedSame, number-text, action-apart}
 use Rattle.files.proofs.BothWays.{same-bytes-same-event}
 use Rattle.files.proofs.CountByte.{there-typed}
@@ -101,8 +102,8 @@ pub bytes-apart : (a b : Number) → numberThere a ≡ true → numberThere b �
     → (bytesOf (numberFields 1) (numberValues a) ≡ bytesOf (numberFields 1) (numberValues b)) ↔ (sameNumber a b ≡ true)
 bytes-apart a b p q = (
   λ h. same-is-equal a b .1 (ap asked
-      (same-bytes-same-event (Ask 0 a) (Ask 0 b) (asked-ok a p) (omega arith, there-typed a p) (asked-ok b q) (omega arith, there-typed b q) [] []
-      (ap (λ (l : List ℕ). l ++ []) (asked-bytes a ∙ ap (λ (l : List ℕ). headOf 12 2 ++ (leOf 1 0 ++ l)) h ∙ sym (asked-bytes b))))),
+      (same-bytes-same-event Plain Plain (Ask 0 a) (Ask 0 b) (asked-ok a p) (omega arith, there-typed a p) tt (asked-ok b q) (omega arith, there-typed b q) tt [] []
+      (ap (λ (l : List ℕ). l ++ []) (asked-bytes a ∙ ap (λ (l : List ℕ). headOf 12 2 ++ (leOf 1 0 ++ l)) h ∙ sym (asked-bytes b))) .1)),
   λ h. ap (λ (n : Number). bytesOf (numberFields 1) (numberValues n)) (same-is-equal a b .0 h),
 )
 

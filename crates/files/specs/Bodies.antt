@@ -16,9 +16,11 @@ use Rattle.rows.specs.declared.Number.{Number}
 use Rattle.files.specs.Bytes.{byteAt, leOf}
 use Rattle.files.specs.Fields.{numberFields, openingFields, askFields, messageFields, accessFields, expiryFields, timeFields}
 use Rattle.files.specs.Fields.{valuesAt, bytesOf}
-use Rattle.files.specs.Frames.{lengthWith, frameAt}
+use Rattle.files.specs.Frames.{lengthWith, slottedKind, plainFrame, frameAt}
 use Rattle.files.specs.declared.Frame.{Frame}
 use Rattle.files.specs.declared.Read.{Read}
+use Rattle.files.specs.declared.Where.{Where}
+use Rattle.files.specs.declared.Where.the-variants.{Plain, Slot}
 
 -- ---- the count byte of a telephone number, both ways. 02 #103: "its nature, national or international, in the top bit of the count byte
 -- (set for international)"; the count is the low seven bits
@@ -111,14 +113,24 @@ eventAt s b kind =
     (ifEq kind 4 (accessAt s b)
     (ifEq kind 5 Expiry (timeAt s b)))))
 
--- a record's event, and the place after it; 01: "reading stops here"
+-- where the body of its event begins: after length and kind; inside a record of kind 7 after its own length and kind, the slot, and the
+-- inner length and kind
+abbrev pub bodyAt : Where → ℕ → ℕ
+bodyAt Plain at = at + 4
+bodyAt (Slot i) at = at + 10
+
+-- where a record acts, its event, and the place after it; 01: "reading stops here"
 abbrev pub readBy : List ℕ → ℕ → Frame → Read
 readBy s at (Frame.Stop n) = Read.Stop n
-readBy s at (Frame.Body kind next) = Read.Got (eventAt s (at + 4) kind) next
+readBy s at (Frame.Body w kind next) = Read.Got w (eventAt s (bodyAt w at) kind) next
 
 -- what stands at a place of a file
 unfoldable pub readAt : List ℕ → ℕ → Read
 readAt s at = ifLe (length s) at Read.End (readBy s at (frameAt s at))
+
+-- the same where plain records alone may stand
+unfoldable pub plainAt : List ℕ → ℕ → Read
+plainAt s at = ifLe (length s) at Read.End (readBy s at (plainFrame s at))
 
 -- ---- from events to bytes
 
@@ -180,3 +192,15 @@ headOf len kind = leOf 2 len ++ leOf 2 kind
 
 unfoldable pub recordOf : Event → List ℕ
 recordOf e = headOf (lengthWith (fieldsOf e)) (kindOf e) ++ bytesOf (fieldsOf e) (valuesOf e)
+
+-- a record of kind 7: its length, its kind, the slot, and a whole plain record
+unfoldable pub slotHead : ℕ → ℕ → List ℕ
+slotHead n i = headOf (n + 4) slottedKind ++ leOf 2 i
+
+unfoldable pub slottedOf : ℕ → List ℕ → List ℕ
+slottedOf i inner = slotHead (length inner) i ++ inner
+
+-- the record of an event, plain or at a slot
+abbrev pub entryOf : Where → Event → List ℕ
+entryOf Plain e = recordOf e
+entryOf (Slot i) e = slottedOf i (recordOf e)

@@ -9,7 +9,7 @@ use Rattle.files.specs.Bodies.{readAt}
 use Rattle.files.specs.Frames.{cutShort, badLength}
 use Rattle.files.specs.Lines.{numberedLine}
 use Rattle.files.specs.Places.{placesOf}
-use Rattle.files.specs.Words.{eventWords}
+use Rattle.files.specs.Words.{entryWords}
 use Rattle.files.specs.declared.Read.{Read}
 
 -- why a record cannot be read: 5, 6 or else 7
@@ -20,7 +20,7 @@ stopText n = ifEq n cutShort (ascii " CUT-SHORT") (ifEq n badLength (ascii " BAD
 abbrev pub foundText : Read → List ℕ
 foundText Read.End = []
 foundText (Read.Stop n) = stopText n
-foundText (Read.Got e next) = eventWords e
+foundText (Read.Got w e next) = entryWords w e
 
 -- a record's line: ordinal, place, what it says
 unfoldable pub placeText : ℕ → Read → ℕ → List ℕ
@@ -37,4 +37,4 @@ dumpOf s = numberedLine (ascii "RECORDS ") (length (placesOf s)) ++ placesText s
 
 -- no record's line is longer
 abbrev pub longestPlace : ℕ
-longestPlace = 680
+longestPlace = 696

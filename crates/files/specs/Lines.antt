@@ -1,6 +1,7 @@
 -- The lines of a listing. 01: "for each record its ordinal, number, phase, REV state, caller, called, far; then its actions,
 -- each after `> `; last `END` and the count of records shown". "Lines end in one newline."
 -- Assumes nothing.
+use mathlib.Core.Bool.{Bool, true, false}
 use mathlib.Core.List.{List, [], _++_}
 use Prim.Native.Nat.{ℕ}
 use Rattle.meters.specs.declared.Meters.{Meters}
@@ -40,10 +41,15 @@ standText stand = phaseText (stand .phase) ++ revText (stand .rev)
 unfoldable pub metersText : Meters → List ℕ
 metersText m = numbered (ascii " ") (m .caller) ++ numbered (ascii " ") (m .called) ++ numbered (ascii " ") (m .far)
 
+-- 02 #107: "The listing puts the slot after the ordinal"; where slots are not shown, nothing
+abbrev pub slotText : Bool → ℕ → List ℕ
+slotText true slot = numbered (ascii " ") slot
+slotText false slot = []
+
 -- "its ordinal, number, phase, REV state, caller, called, far"
-unfoldable pub lineText : ℕ → ℕ → Call → List ℕ
-lineText ordinal number call =
-    decimal ordinal ++ numbered (ascii " ") number ++ standText (call .stand) ++ metersText (call .meters) ++ ascii "\n"
+unfoldable pub lineText : ℕ → Bool → ℕ → ℕ → Call → List ℕ
+lineText ordinal slots slot number call =
+    decimal ordinal ++ slotText slots slot ++ numbered (ascii " ") number ++ standText (call .stand) ++ metersText (call .meters) ++ ascii "\n"
 
 unfoldable pub numberedLine : List ℕ → ℕ → List ℕ
 numberedLine word n = numbered word n ++ ascii "\n"
@@ -72,9 +78,9 @@ actionsText o =
     ++ actionText (o .note) (o .fourth)
 
 -- a record's line and, where a row was applied, its actions
-unfoldable pub recordText : ℕ → Outcome → List ℕ
-recordText ordinal o = lineText ordinal (o .number) (o .call) ++ ifEq (o .number) applied (actionsText o) []
+unfoldable pub recordText : ℕ → Bool → ℕ → Outcome → List ℕ
+recordText ordinal slots slot o = lineText ordinal slots slot (o .number) (o .call) ++ ifEq (o .number) applied (actionsText o) []
 
 -- no record's text is longer
 abbrev pub longestRecord : ℕ
-longestRecord = 2565
+longestRecord = 2576

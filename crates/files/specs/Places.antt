@@ -11,7 +11,7 @@ use Rattle.files.specs.declared.Read.{Read}
 unfoldable pub placeAfter : Read → ℕ → ℕ
 placeAfter Read.End stay = stay
 placeAfter (Read.Stop n) stay = stay
-placeAfter (Read.Got e next) stay = next
+placeAfter (Read.Got w e next) stay = next
 
 -- The places of the records from a place on, k at most. 01: "After 5, 6 or 7 that record's line is shown, then END": a record that
 -- cannot be read is the last.

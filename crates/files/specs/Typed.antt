@@ -1,5 +1,5 @@
 -- What the theorems between records and events speak of, beside the definitions of both (Bodies.antt): bytes, events with numbers of their
--- types, and the file of a list of events. No code asks any of it.
+-- types, and the file of a list of entries. No code asks any of it.
 -- Assumes nothing.
 use mathlib.Core.Bool.{true}
 use mathlib.Core.List.{List, [], _∷_, _++_}
@@ -10,7 +10,9 @@ use Rattle.rows.specs.declared.Event.{Event}
 use Rattle.rows.specs.declared.Event.the-variants.{Opening, Ask, Received, FromAccess, Expiry, Time}
 use Rattle.rows.specs.declared.Message.{Message}
 use Rattle.rows.specs.declared.Number.{Number}
-use Rattle.files.specs.Bodies.{codeOf, itemOf, recordOf}
+use Rattle.files.specs.Bodies.{codeOf, itemOf, entryOf}
+use Rattle.files.specs.declared.Where.{Where}
+use Rattle.files.specs.declared.Where.the-variants.{Plain, Slot}
 
 -- each is a byte, as in every file of a program
 abbrev pub AllBytes : List ℕ → Type 0
@@ -36,13 +38,22 @@ Typed (FromAccess item error) = (item < 256) × (error < 256)
 Typed Expiry = Unit {0}
 Typed (Time seconds) = seconds < 2 ^ 32
 
--- ---- a file of events: their records one after another
+-- a slot that a record can name
+abbrev pub TypedWhere : Where → Type 0
+TypedWhere Plain = Unit {0}
+TypedWhere (Slot i) = i < 2 ^ 16
 
-abbrev pub fileOf : List Event → List ℕ
+-- ---- an entry of a file: where it acts, and its event; and a file of entries: their records one after another
+
+pub record Entry : Type 0 where
+  pub acts : Where
+  pub event : Event
+
+abbrev pub fileOf : List Entry → List ℕ
 fileOf [] = []
-fileOf (e ∷ es) = recordOf e ++ fileOf es
+fileOf (x ∷ xs) = entryOf (x .acts) (x .event) ++ fileOf xs
 
 -- each is in range, and its fields are numbers of their types
-abbrev pub Writable : List Event → Type 0
+abbrev pub Writable : List Entry → Type 0
 Writable [] = Unit {0}
-Writable (e ∷ es) = (eventOk e ≡ true) × Typed e × Writable es
+Writable (x ∷ xs) = (eventOk (x .event) ≡ true) × Typed (x .event) × TypedWhere (x .acts) × Writable xs

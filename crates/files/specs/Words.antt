@@ -15,6 +15,8 @@ use Rattle.rows.specs.declared.Event.the-variants.{Opening, Ask, Received, From
 use Rattle.rows.specs.declared.Message.{Message}
 use Rattle.rows.specs.declared.Number.{Number}
 use Rattle.files.specs.Bytes.{part}
+use Rattle.files.specs.declared.Where.{Where}
+use Rattle.files.specs.declared.Where.the-variants.{Plain, Slot}
 use Rattle.files.specs.Messages.{operationText, textIf, signText, withDigits, partsText}
 
 -- a number that has no word
@@ -149,9 +151,17 @@ eventWords (FromAccess item error) = accessWords item error
 eventWords Expiry = ascii " EXPIRY"
 eventWords (Time seconds) = numbered (ascii " TIME ") seconds
 
+-- a record of kind 7 says its slot first
+abbrev pub whereWords : Where → List ℕ
+whereWords Plain = []
+whereWords (Slot i) = numbered (ascii " SLOT ") i
+
+unfoldable pub entryWords : Where → Event → List ℕ
+entryWords w e = whereWords w ++ eventWords e
+
 -- ---- a line that says an event
 
--- r: whether a line is an event's words, without the blank that they begin with
-pub record Says (line : List ℕ) (e : Event) (r : Bool) : Type 0 where
-  pub right : r ≡ true → ascii " " ++ line ≡ eventWords e
-  pub whole : ascii " " ++ line ≡ eventWords e → r ≡ true
+-- r: whether a line is the words of an event, plain or at a slot, without the blank that they begin with
+pub record Says (line : List ℕ) (w : Where) (e : Event) (r : Bool) : Type 0 where
+  pub right : r ≡ true → ascii " " ++ line ≡ entryWords w e
+  pub whole : ascii " " ++ line ≡ entryWords w e → r ≡ true

@@ -13,7 +13,9 @@ use Rattle.rows.specs.declared.Event.the-variants.{Received}
 use Rattle.rows.specs.declared.Nature.{Nature}
 use Rattle.rows.specs.declared.Nature.the-variants.{National, International}
 use Rattle.rows.specs.declared.Number.{Number}
-use Rattle.files.specs.Bodies.{componentOf, recordOf}
+use Rattle.files.specs.Bodies.{componentOf, recordOf, slottedOf}
+use Rattle.files.specs.Frames.{cutShort}
+use Rattle.files.specs.declared.Read.{Read}
 use Rattle.files.specs.declared.Written.{Written}
 use Rattle.files.specs.declared.Written.the-variants.{Whole, BadField, NoRoom}
 
@@ -24,6 +26,20 @@ writtenOf e out = ifSo (eventOk e) (ifLt (length out) (length (recordOf e)) NoRo
 -- the record, then the bytes that stood there; on a refusal every byte as it was
 unfoldable pub leftOf : Event → List ℕ → List ℕ
 leftOf e out = ifSo (eventOk e) (ifLt (length out) (length (recordOf e)) out (recordOf e ++ drop (length (recordOf e)) out)) out
+
+-- The same of a record of kind 7 at the slot i. 02 #107: "two bytes of slot, then a whole inner record": the fields are those of the inner
+-- body, and any slot of two bytes is written, since it is the board that says 19
+unfoldable pub writtenAt : ℕ → Event → List ℕ → Written
+writtenAt i e out =
+    ifSo (eventOk e)
+    (ifLt (length out) (length (slottedOf i (recordOf e))) NoRoom (Whole (length (slottedOf i (recordOf e)))))
+    (BadField (badFieldOf e))
+
+unfoldable pub leftAt : ℕ → Event → List ℕ → List ℕ
+leftAt i e out =
+    ifSo (eventOk e)
+    (ifLt (length out) (length (slottedOf i (recordOf e))) out (slottedOf i (recordOf e) ++ drop (length (slottedOf i (recordOf e))) out))
+    out
 
 -- the number of each answer, the ordinal of the field that it tells, which is 0 beside every number but 3, and how many bytes it wrote
 abbrev pub numberOf : Written → ℕ
@@ -44,6 +60,19 @@ bytesWritten NoRoom = 0
 -- what a host in C is given back: number and ordinal in one
 abbrev pub givesBack : Written → ℕ
 givesBack w = numberOf w + 256 * fieldOf w
+
+-- ---- a host in C hands over a plain record, to stand inside one of kind 7: why it cannot be read, or what is answered to its event; an
+-- empty one lacks its length
+
+abbrev pub slotGives : Read → ℕ → List ℕ → ℕ
+slotGives Read.End i out = cutShort
+slotGives (Read.Stop n) i out = n
+slotGives (Read.Got w e next) i out = givesBack (writtenAt i e out)
+
+abbrev pub slotLeaves : Read → ℕ → List ℕ → List ℕ
+slotLeaves Read.End i out = out
+slotLeaves (Read.Stop n) i out = out
+slotLeaves (Read.Got w e next) i out = leftAt i e out
 
 -- ---- a host in C passes numbers
 

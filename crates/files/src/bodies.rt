@@ -1,14 +1,17 @@
 // The body of a record, and the event that it is. No field is judged here: the call answers 3.
 ghost use mathlib.Core.Path.{_≡_};
-ghost use Prim.Native.Nat.{_+_, _*_, _<_, _^_};
-ghost use Rattle.files.specs.Bodies.{natureOf, countOf, numberIf, openingAt, askAt, componentOf, messageAt, accessAt, timeAt, eventAt, readAt};
+ghost use Prim.Native.Nat.{_+_, _*_, _≤_, _<_, _^_};
+ghost use Rattle.files.specs.Bodies.{natureOf, countOf, numberIf, openingAt, askAt, componentOf, messageAt, accessAt, timeAt, eventAt};
+ghost use Rattle.files.specs.Bodies.{bodyAt, readBy, readAt, plainAt};
 ghost use Rattle.files.specs.Bytes.{leAt};
 use crate::Frame;
 use crate::Read;
+use crate::Where;
 use crate::bytes::byte;
 use crate::bytes::le4;
 use crate::bytes::le8;
 use crate::frames::frame;
+use crate::frames::plain_frame;
 use rows::ABSENT;
 use rows::Component;
 use rows::Event;
@@ -177,6 +180,31 @@ fn event_at(s: &[u8], b: usize, kind: u32) -> Event
     time_at(s, b)
 }
 
+// Where the body of its event begins: after length and kind; inside one of kind 7 after these, the slot, and length and kind once more.
+fn body_at(w: Where, at: usize) -> usize
+    requires { ⌜ at < 2 ^ 63 ⌝ }
+    ensures { λ r. ⌜ (r ≡ bodyAt w at) × (r ≤ at + 10) ⌝ }
+{
+    match w {
+        Where::Plain => at + 4,
+        Where::Slot(_) => at + 10,
+    }
+}
+
+// A record by its frame.
+fn read_by(s: &[u8], at: usize, f: Frame) -> Read
+    requires { ⌜ at < 2 ^ 63 ⌝ }
+    ensures { λ r. ⌜ r ≡ readBy (now (s .entry)) at f ⌝ }
+{
+    match f {
+        Frame::Stop(number) => Read::Stop(number),
+        Frame::Body(w, kind, next) => {
+            let b = body_at(w, at);
+            Read::Got(w, event_at(s, b, kind), next)
+        }
+    }
+}
+
 // What stands at a place of a file.
 pub fn read_at(s: &[u8], at: usize) -> Read
     ensures { λ r. ⌜ r ≡ readAt (now (s .entry)) at ⌝ }
@@ -185,8 +213,16 @@ pub fn read_at(s: &[u8], at: usize) -> Read
         return Read::End;
     }
     let f = frame(s, at);
-    match f {
-        Frame::Stop(number) => Read::Stop(number),
-        Frame::Body(kind, next) => Read::Got(event_at(s, at + 4, kind), next),
+    read_by(s, at, f)
+}
+
+// The same where plain records alone may stand.
+pub fn plain_at(s: &[u8], at: usize) -> Read
+    ensures { λ r. ⌜ r ≡ plainAt (now (s .entry)) at ⌝ }
+{
+    if s.len() <= at {
+        return Read::End;
     }
+    let f = plain_frame(s, at);
+    read_by(s, at, f)
 }

@@ -14,7 +14,7 @@ use crate::lent::found_at;
 use crate::lines::put_numbered_line;
 use crate::places::count_records;
 use crate::places::place_after;
-use crate::words::put_event;
+use crate::words::put_entry;
 
 fn put_stop(out: &mut [u8], at: usize, number: u8) -> usize
     requires { ⌜ at < 2 ^ 60 ⌝ }
@@ -34,12 +34,12 @@ fn put_stop(out: &mut [u8], at: usize, number: u8) -> usize
 fn put_found(out: &mut [u8], at: usize, found: Read) -> usize
     requires { ⌜ at < 2 ^ 57 ⌝ }
     ensures { λ r. ⌜ Put (now (out .entry)) at (foundText found) (now (out .exit)) r ⌝ }
-    ensures { λ r. ⌜ r ≤ at + 658 ⌝ }
+    ensures { λ r. ⌜ r ≤ at + 674 ⌝ }
 {
     match found {
         Read::End => at,
         Read::Stop(number) => put_stop(out, at, number),
-        Read::Got(e, _) => put_event(out, at, e),
+        Read::Got(w, e, _) => put_entry(out, at, w, e),
     }
 }
 

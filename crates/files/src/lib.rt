@@ -20,6 +20,7 @@ mod write;
 pub use bodies::component_of;
 pub use bodies::count_of;
 pub use bodies::nature_of;
+pub use bodies::plain_at;
 pub use bodies::read_at;
 pub use bytes::le2;
 pub use dump::rev_dump;
@@ -43,21 +44,29 @@ pub use write::rev_write_expiry;
 pub use write::rev_write_message;
 pub use write::rev_write_opening;
 pub use write::rev_write_request;
+pub use write::rev_write_slot;
 pub use write::rev_write_time;
+pub use write::write_at_slot;
 pub use write::write_event;
 
-// A record's frame: the number at which reading stops; or its kind and the place after it.
-pub enum Frame {
-    Stop(u8),
-    Body(u32, usize),
+// Where a record acts: a plain one, of kind 1 to 6, on slot 0; one of kind 7 on the slot that it names.
+pub enum Where {
+    Plain,
+    Slot(u16),
 }
 
-// What stands at a place of a file: nothing; a record that cannot be read, with its number (5, 6 or 7); or a record's event and the
-// place after it.
+// A record's frame: the number at which reading stops; or where it acts, the kind of its event and the place after it.
+pub enum Frame {
+    Stop(u8),
+    Body(Where, u32, usize),
+}
+
+// What stands at a place of a file: nothing; a record that cannot be read, with its number (5, 6 or 7); or where a record acts, its event
+// and the place after it.
 pub enum Read {
     End,
     Stop(u8),
-    Got(Event, usize),
+    Got(Where, Event, usize),
 }
 
 // A reader that remembers the bytes it was lent, and its place in them.

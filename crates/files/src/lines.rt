@@ -2,7 +2,7 @@
 ghost use Prim.Native.Nat.{_+_, _≤_, _<_, _^_};
 ghost use lib.ListN.{length};
 ghost use Rattle.text.specs.Text.{Put};
-ghost use Rattle.files.specs.Lines.{phaseText, revText, standText, metersText, lineText, numberedLine, actionText, actionsText};
+ghost use Rattle.files.specs.Lines.{phaseText, revText, standText, metersText, slotText, lineText, numberedLine, actionText, actionsText};
 ghost use Rattle.files.specs.Lines.{recordText, longestRecord};
 use crate::messages::put_released;
 use crate::messages::put_sent;
@@ -68,15 +68,36 @@ fn put_meters(out: &mut [u8], at: usize, m: Meters) -> usize
     text::put_numbered(out, to, b" ", m.far)
 }
 
-// A record's line: its ordinal, its number, and the call after it.
-fn put_line(out: &mut [u8], at: usize, ordinal: u32, number: u8, call: Call) -> usize
+// The slot, where slots are shown.
+fn put_slot(out: &mut [u8], at: usize, slots: bool, slot: u32) -> usize
+    requires { ⌜ at < 2 ^ 59 ⌝ }
+    ensures { λ r. ⌜ Put (now (out .entry)) at (slotText slots slot) (now (out .exit)) r ⌝ }
+    ensures { λ r. ⌜ r ≤ at + 11 ⌝ }
+{
+    if slots {
+        return text::put_numbered(out, at, b" ", slot);
+    }
+    at
+}
+
+// A record's line: its ordinal, its slot, its number, and the call after it.
+fn put_line(
+    out: &mut [u8],
+    at: usize,
+    ordinal: u32,
+    slots: bool,
+    slot: u32,
+    number: u8,
+    call: Call,
+) -> usize
     requires { ⌜ at < 2 ^ 58 ⌝ }
-    ensures { λ r. ⌜ Put (now (out .entry)) at (lineText ordinal number call) (now (out .exit)) r ⌝ }
-    ensures { λ r. ⌜ r ≤ at + 81 ⌝ }
+    ensures { λ r. ⌜ Put (now (out .entry)) at (lineText ordinal slots slot number call) (now (out .exit)) r ⌝ }
+    ensures { λ r. ⌜ r ≤ at + 92 ⌝ }
 {
     let stand = call.stand;
     let meters = call.meters;
     let mut to = text::put_dec(out, at, ordinal);
+    to = put_slot(out, to, slots, slot);
     to = text::put_numbered(out, to, b" ", number as u32);
     to = put_stand(out, to, stand);
     to = put_meters(out, to, meters);
@@ -133,13 +154,20 @@ fn put_actions(out: &mut [u8], at: usize, o: Outcome) -> usize
 }
 
 // A record's line and, where a row was applied, its actions.
-pub(crate) fn put_record(out: &mut [u8], at: usize, ordinal: u32, o: Outcome) -> usize
+pub(crate) fn put_record(
+    out: &mut [u8],
+    at: usize,
+    ordinal: u32,
+    slots: bool,
+    slot: u32,
+    o: Outcome,
+) -> usize
     requires { ⌜ at < 2 ^ 56 ⌝ }
-    ensures { λ r. ⌜ Put (now (out .entry)) at (recordText ordinal o) (now (out .exit)) r ⌝ }
+    ensures { λ r. ⌜ Put (now (out .entry)) at (recordText ordinal slots slot o) (now (out .exit)) r ⌝ }
     ensures { λ r. ⌜ r ≤ at + longestRecord ⌝ }
 {
     let call = o.call;
-    let end = put_line(out, at, ordinal, o.number, call);
+    let end = put_line(out, at, ordinal, slots, slot, o.number, call);
     if o.number == APPLIED {
         return put_actions(out, end, o);
     }

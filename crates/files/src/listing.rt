@@ -1,49 +1,141 @@
 // The listing of a file: every record's line and actions, from one call that each event steps on.
 ghost use mathlib.Core.Path.{_≡_};
-ghost use Prim.Native.Nat.{_≤_};
+ghost use Prim.Native.Nat.{_≤_, _<_};
 ghost use lib.ListN.{length};
 ghost use Rattle.text.specs.Text.{Put};
 ghost use Rattle.files.specs.Fit.{longest, answers, leaves};
-ghost use Rattle.files.specs.Listing.{answerOf, listingOf};
+ghost use Rattle.files.specs.Listing.{slotOf, slotFound, isSlot, namesSlot, answerOf, indexOf, namesSlots, listingBy, listingOf};
 use crate::Read;
+use crate::Where;
 use crate::bodies::read_at;
 use crate::fit::LONGEST;
 use crate::fit::TOO_LONG;
 use crate::lines::put_numbered_line;
 use crate::lines::put_record;
 use crate::places::place_after;
+use board::NO_SUCH_SLOT;
+use board::SLOTS;
 use rows::Call;
 use rows::Outcome;
 
-// The answer to what stands at a place: a record that cannot be read is refused with its number.
-fn answer(found: Read, call: Call) -> Outcome
-    ensures { λ r. ⌜ r ≡ answerOf found call ⌝ }
+// A listing that was written as far as its buffer went: its length, and whether a record names a slot.
+struct Listed {
+    to: usize,
+    slots: bool,
+}
+
+// The slot at which a record acts.
+fn slot_of(w: Where) -> usize
+    ensures { λ r. ⌜ (r ≡ slotOf w) × (r < 65536) ⌝ }
+{
+    match w {
+        Where::Plain => 0,
+        Where::Slot(slot) => slot as usize,
+    }
+}
+
+fn slot_found(found: Read) -> usize
+    ensures { λ r. ⌜ (r ≡ slotFound found) × (r < 65536) ⌝ }
+{
+    match found {
+        Read::End => 0,
+        Read::Stop(_) => 0,
+        Read::Got(w, _, _) => slot_of(w),
+    }
+}
+
+// Its place in the row of a listing: past the last slot stands a call that is never opened.
+fn index_of(slot: usize) -> usize
+    ensures { λ r. ⌜ (r ≡ indexOf slot) × (r < 65) ⌝ }
+{
+    if slot < SLOTS {
+        return slot;
+    }
+    SLOTS
+}
+
+// The answer of a slot's call to what stands at a place: a record that cannot be read is refused with its number.
+fn answer(found: Read, there: bool, call: Call) -> Outcome
+    ensures { λ r. ⌜ r ≡ answerOf found there call ⌝ }
 {
     match found {
         Read::End => call.refused(0),
         Read::Stop(number) => call.refused(number),
-        Read::Got(e, _) => call.step(e),
+        Read::Got(_, e, _) => {
+            if there {
+                return call.step(e);
+            }
+            // the call past the last slot, which is never opened
+            call.refused(NO_SUCH_SLOT)
+        }
     }
 }
 
-// The whole listing as far as the buffer goes, and its length.
-fn write(file: &[u8], out: &mut [u8]) -> usize
+// Whether it is a record of kind 7.
+fn names_slot(found: Read) -> bool
+    ensures { λ r. ⌜ r ≡ namesSlot found ⌝ }
+{
+    match found {
+        Read::End => false,
+        Read::Stop(_) => false,
+        Read::Got(w, _, _) => is_slot(w),
+    }
+}
+
+fn is_slot(w: Where) -> bool
+    ensures { λ r. ⌜ r ≡ isSlot w ⌝ }
+{
+    match w {
+        Where::Plain => false,
+        Where::Slot(_) => true,
+    }
+}
+
+// The whole listing as far as the buffer goes, with slots or without: its length, and whether a record names a slot.
+fn write(file: &[u8], slots: bool, out: &mut [u8]) -> Listed
     requires { ⌜ length (now file) ≤ longest ⌝ }
-    ensures { λ r. ⌜ Put (now (out .entry)) 0 (listingOf (now (file .entry))) (now (out .exit)) r ⌝ }
+    ensures { λ r. ⌜ Put (now (out .entry)) 0 (listingBy slots (now (file .entry))) (now (out .exit)) (r .to) ⌝ }
+    ensures { λ r. ⌜ r .slots ≡ namesSlots (now (file .entry)) ⌝ }
 {
     let mut to = text::put_word(out, 0, b"REV 1\n");
     let mut at: usize = 0;
     let mut count: u32 = 0;
+    let mut named = false;
     let mut call = Call::unopened();
+    let mut row = [call; 65];
+    // the place of the row whose call is in `call`, and may be newer there
+    let mut held: usize = 0;
     while at < file.len() {
         let found = read_at(file, at);
-        let o = answer(found, call);
+        let slot = slot_found(found);
+        let index = index_of(slot);
+        if index != held {
+            row[held] = call;
+            call = row[index];
+            held = index;
+        }
+        let o = answer(found, index < SLOTS, call);
         count += 1;
-        to = put_record(out, to, count, o);
+        named = named | names_slot(found);
+        to = put_record(out, to, count, slots, slot as u32, o);
         at = place_after(found, file.len());
         call = o.call;
     }
-    put_numbered_line(out, to, b"END ", count)
+    to = put_numbered_line(out, to, b"END ", count);
+    Listed { to, slots: named }
+}
+
+// How long it is, and whether it shows slots.
+fn measure(file: &[u8], nothing: &mut [u8]) -> Listed
+    requires { ⌜ length (now file) ≤ longest ⌝ }
+    requires { ⌜ length (now nothing) ≡ 0 ⌝ }
+    ensures { λ r. ⌜ (r .to ≡ length (listingOf (now (file .entry)))) × (r .slots ≡ namesSlots (now (file .entry))) ⌝ }
+{
+    let plain = write(file, false, nothing);
+    if plain.slots {
+        return write(file, true, nothing);
+    }
+    plain
 }
 
 // The listing of a file in a buffer of any size: its length; or 8, and the buffer as it was.
@@ -56,9 +148,10 @@ pub extern "C" fn rev_listing(file: &[u8], out: &mut [u8]) -> usize
         return TOO_LONG;
     }
     // measured first: nothing is stored in a buffer of no bytes
-    let n = write(file, &mut out[..0]);
-    if out.len() < n {
+    let all = measure(file, &mut out[..0]);
+    if out.len() < all.to {
         return TOO_LONG;
     }
-    write(file, out)
+    let done = write(file, all.slots, out);
+    done.to
 }

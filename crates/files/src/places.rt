@@ -12,7 +12,7 @@ pub(crate) fn place_after(found: Read, stay: usize) -> usize
     match found {
         Read::End => stay,
         Read::Stop(_) => stay,
-        Read::Got(_, next) => next,
+        Read::Got(_, _, next) => next,
     }
 }
 

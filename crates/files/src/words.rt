@@ -9,7 +9,8 @@ ghost use Rattle.files.specs.Messages.{textIf};
 ghost use Rattle.files.specs.Words.{codeWord, digitsWord, valueText, countedWord, numberWord, roleWord, commaText, flagText};
 ghost use Rattle.files.specs.Words.{flagsText, flagsWord, openingWords, askedWord, askWords, nameWord, operationWord};
 ghost use Rattle.files.specs.Words.{withOperationWord, unlessZero, rejectWords, unknownWords, componentWords, withNumber};
-ghost use Rattle.files.specs.Words.{valuesWords, messageWords, toldWord, accessWords, eventWords, Says};
+ghost use Rattle.files.specs.Words.{valuesWords, messageWords, toldWord, accessWords, eventWords, whereWords, entryWords, Says};
+use crate::Where;
 use crate::messages::put_duration_if;
 use crate::messages::put_if;
 use crate::messages::put_operation;
@@ -367,8 +368,8 @@ fn put_access(out: &mut [u8], at: usize, item: u8, error: u8) -> usize
     put_code(out, to, error)
 }
 
-pub(crate) fn put_event(out: &mut [u8], at: usize, e: Event) -> usize
-    requires { ⌜ at < 2 ^ 57 ⌝ }
+fn put_event(out: &mut [u8], at: usize, e: Event) -> usize
+    requires { ⌜ at < 2 ^ 58 ⌝ }
     ensures { λ r. ⌜ Put (now (out .entry)) at (eventWords e) (now (out .exit)) r ⌝ }
     ensures { λ r. ⌜ r ≤ at + 658 ⌝ }
 {
@@ -380,6 +381,27 @@ pub(crate) fn put_event(out: &mut [u8], at: usize, e: Event) -> usize
         Event::Expiry => text::put_word(out, at, b" EXPIRY"),
         Event::Time(seconds) => text::put_numbered(out, at, b" TIME ", seconds),
     }
+}
+
+// A record of kind 7 says its slot first.
+fn put_where(out: &mut [u8], at: usize, w: Where) -> usize
+    requires { ⌜ at < 2 ^ 58 ⌝ }
+    ensures { λ r. ⌜ Put (now (out .entry)) at (whereWords w) (now (out .exit)) r ⌝ }
+    ensures { λ r. ⌜ r ≤ at + 16 ⌝ }
+{
+    match w {
+        Where::Plain => at,
+        Where::Slot(slot) => text::put_numbered(out, at, b" SLOT ", slot as u32),
+    }
+}
+
+pub(crate) fn put_entry(out: &mut [u8], at: usize, w: Where, e: Event) -> usize
+    requires { ⌜ at < 2 ^ 57 ⌝ }
+    ensures { λ r. ⌜ Put (now (out .entry)) at (entryWords w e) (now (out .exit)) r ⌝ }
+    ensures { λ r. ⌜ r ≤ at + 674 ⌝ }
+{
+    let to = put_where(out, at, w);
+    put_event(out, to, e)
 }
 
 // Whether two texts are the same.
@@ -413,11 +435,11 @@ fn begins_line(words: &[u8], line: &[u8]) -> bool
     same(&words[1..], line)
 }
 
-// Whether a line says an event, in its words, without the blank that they begin with.
-pub fn says(line: &[u8], e: Event) -> bool
-    ensures { λ r. ⌜ Says (now (line .entry)) e r ⌝ }
+// Whether a line says an event, plain or at a slot, in its words, without the blank that they begin with.
+pub fn says(line: &[u8], w: Where, e: Event) -> bool
+    ensures { λ r. ⌜ Says (now (line .entry)) w e r ⌝ }
 {
-    let mut words = [0u8; 658];
-    let n = put_event(&mut words, 0, e);
+    let mut words = [0u8; 674];
+    let n = put_entry(&mut words, 0, w, e);
     begins_line(&words[..n], line)
 }

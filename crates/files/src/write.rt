@@ -2,18 +2,22 @@
 // nothing is stored. Each length stands as a number beside the fields that it counts: the table of fields, which is the reader's too, holds
 // it to them.
 ghost use mathlib.Core.Path.{_≡_};
-ghost use Prim.Native.Nat.{_+_, _*_, _%_, _≤_, _<_};
+ghost use Prim.Native.Nat.{_+_, _*_, _^_, _%_, _≤_, _<_};
 ghost use lib.ListN.{length};
 ghost use Rattle.text.specs.Text.{Put};
 ghost use Rattle.rows.specs.Telephone.{sameNumber};
 ghost use Rattle.rows.specs.declared.Event.the-variants.{Opening, Ask, Received, FromAccess, Expiry, Time};
-ghost use Rattle.files.specs.Bodies.{countByte, codeOf, itemOf, numberValues, frontValues, carriedValues, headOf, recordOf};
+ghost use Rattle.files.specs.Bodies.{countByte, codeOf, itemOf, numberValues, frontValues, carriedValues, headOf, recordOf, slotHead, plainAt};
 ghost use Rattle.files.specs.Bytes.{leOf, part};
 ghost use Rattle.files.specs.Fields.{numberFields, frontFields, carriedFields, bytesOf};
 ghost use Rattle.files.specs.Frames.{lengthOf};
-ghost use Rattle.files.specs.Write.{writtenOf, leftOf, givesBack, natureWith, numberWith, messageWith};
+ghost use Rattle.files.specs.Write.{writtenOf, leftOf, writtenAt, leftAt, givesBack, slotGives, slotLeaves, natureWith, numberWith, messageWith};
+use crate::Read;
 use crate::Written;
 use crate::bodies::component_of;
+use crate::bodies::plain_at;
+use crate::frames::CUT_SHORT;
+use crate::frames::SLOTTED;
 use crate::frames::length_of;
 use rows::Component;
 use rows::Event;
@@ -329,6 +333,33 @@ pub fn write_event(e: Event, out: &mut [u8]) -> Written
     }
 }
 
+// The six bytes before a record that stands inside one of kind 7: length, kind and slot. `inner` is its length in bytes.
+fn put_slot_head(out: &mut [u8], inner: usize, slot: u16) -> usize
+    requires { ⌜ (6 ≤ length (now out)) × (inner < 2 ^ 16) ⌝ }
+    ensures { λ r. ⌜ Put (now (out .entry)) 0 (slotHead inner slot) (now (out .exit)) r ⌝ }
+    ensures { λ r. ⌜ r ≡ 6 ⌝ }
+{
+    let to = put_head(out, inner as u32 + 4, SLOTTED);
+    put_2(out, to, slot as u64)
+}
+
+// Any event at a slot: a record of kind 7. The record inside is written first, where it will stand, so that it is judged once.
+pub fn write_at_slot(slot: u16, e: Event, out: &mut [u8]) -> Written
+    ensures { λ w. ⌜ (w ≡ writtenAt slot e (now (out .entry))) × (now (out .exit) ≡ leftAt slot e (now (out .entry))) ⌝ }
+{
+    if out.len() < 6 {
+        return write_event(e, &mut out[..0]);
+    }
+    match write_event(e, &mut out[6..]) {
+        Written::Whole(n) => {
+            put_slot_head(out, n, slot);
+            Written::Whole(n + 6)
+        }
+        Written::BadField(field) => Written::BadField(field),
+        Written::NoRoom => Written::NoRoom,
+    }
+}
+
 // An answer as a host in C is given it: 0, 8, or 3 with the field's ordinal above it.
 fn gives_back(w: Written) -> u32
     ensures { λ r. ⌜ r ≡ givesBack w ⌝ }
@@ -456,6 +487,19 @@ pub extern "C" fn rev_write_time(seconds: u32, out: &mut [u8]) -> u32
         × (now (out .exit) ≡ leftOf (Time seconds) (now (out .entry))) ⌝ }
 {
     gives_back(write_time(seconds, out))
+}
+
+// A record of kind 7 around the plain record that a host in C hands over: 5, 6 or 7 if none can be read there, then 3 and 8 as of any event.
+#[no_mangle]
+pub extern "C" fn rev_write_slot(slot: u16, inner: &[u8], out: &mut [u8]) -> u32
+    ensures { λ r. ⌜ (r ≡ slotGives (plainAt (now (inner .entry)) 0) slot (now (out .entry)))
+        × (now (out .exit) ≡ slotLeaves (plainAt (now (inner .entry)) 0) slot (now (out .entry))) ⌝ }
+{
+    match plain_at(inner, 0) {
+        Read::End => CUT_SHORT as u32,
+        Read::Stop(number) => number as u32,
+        Read::Got(_, e, _) => gives_back(write_at_slot(slot, e, out)),
+    }
 }
 
 // Whether two telephone numbers are the same.

@@ -7,6 +7,7 @@ use native.Mathlib.Omega.{arith}
 use lib.ListN.{length}
 use Rattle.text.proofs.Cases.{yes-eq, no-eq, both-eq, yes-lt, no-lt, both-lt}
 use Rattle.files.specs.declared.Read.{Read}
+use Rattle.files.specs.declared.Where.{Where}
 use Rattle.rows.specs.Valid.{badFieldOf}
 use Rattle.rows.specs.declared.Event.{Event}
 use Rattle.rows.specs.declared.Event.the-variants.{Opening, Ask, Received, FromAccess, Expiry, Time}
@@ -238,9 +239,9 @@ module _ (f x : Read) (id : ℕ) (out : List ℕ) (e : f ≡ x) where
   unfolding writeGives writeLeaves
   entry-stop n r g h = let k : r ≡ n = omega arith in subst (λ (y : Read). Writes y id out r out) (sym g ∙ e) (k, refl)
 
-  pub entry-got : (ev : Event) (next i r : ℕ) (new : List ℕ) → f ≡ Read.Got ev next → i ≡ id
+  pub entry-got : (w : Where) (ev : Event) (next i r : ℕ) (new : List ℕ) → f ≡ Read.Got w ev next → i ≡ id
       → Sends ev i out r new → Writes x id out r new
   unfolding writeGives writeLeaves
-  entry-got ev next i r new g h k =
+  entry-got w ev next i r new g h k =
       subst (λ (y : Read). Writes y id out r new) (sym g ∙ e)
       (subst (λ (j : ℕ). Sends ev j out r new) h k)

@@ -16,7 +16,7 @@ use Rattle.files.proofs.CountByte.{in-range-value}
 use Rattle.rows.specs.History.{run}
 use Rattle.rows.specs.Perform.{ifThere, secondsIf, noteOf, standOf, sideOf}
 use Rattle.rows.specs.Read.{bit, kindBy, listedOf, readOf}
-use Rattle.rows.specs.Step.{unopenedCall, isUnopened, stepOf}
+use Rattle.rows.specs.Step.{unopenedCall, stepOf}
 use Rattle.rows.specs.Valid.{inRange, numberThere, eventOk}
 use Rattle.rows.specs.declared.Call.{Call}
 use Rattle.rows.specs.declared.Component.{Component as Sent}
@@ -32,7 +32,7 @@ use Rattle.rows.specs.declared.Outcome.{Outcome}
 use Rattle.rows.specs.declared.Register.{Register}
 use Rattle.rows.specs.declared.Register.the-variants.{AsHeld, FromOpening, CalledNumber, CallingNumber}
 use Rattle.rows.specs.declared.Side.{Side}
-use Rattle.rows.proofs.Answers.{planFor}
+use Rattle.rows.proofs.Answers.{planFor, isUnopened}
 use Rattle.rows.proofs.Found.{implies, so, Test, holds, stepped}
 use Rattle.rows.proofs.Sent.{errorListed, error-listed}
 use Rattle.rows.proofs.Truth.{differ, left, right, either, or-true}

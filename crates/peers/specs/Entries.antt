@@ -9,7 +9,7 @@ use lib.Dec.{leb}
 use lib.ListN.{length, drop}
 use lib.Seq.{sets}
 use Rattle.text.specs.Choose.{ifLt, ifEq}
-use Rattle.files.specs.Bodies.{recordOf, readAt}
+use Rattle.files.specs.Bodies.{recordOf, plainAt}
 use Rattle.files.specs.Bytes.{leAt, leOf}
 use Rattle.files.specs.Frames.{cutShort}
 use Rattle.files.specs.declared.Read.{Read}
@@ -97,9 +97,9 @@ Keeps message cause (holds cs) old from k new =
 abbrev pub identifierAt : List ℕ → ℕ
 identifierAt entry = leAt 2 entry 0
 
--- the record stands behind the identifier
+-- the record stands behind the identifier; it is a plain one, of kind 1 to 6
 abbrev pub recordAt : List ℕ → Read
-recordAt entry = readAt entry 2
+recordAt entry = plainAt entry 2
 
 -- Of two ordinals, each 0 if there is none, the first
 unfoldable pub nearest : ℕ → ℕ → ℕ
@@ -135,9 +135,9 @@ sendLeaves (Time seconds) id out = out
 unfoldable pub writeGives : Read → ℕ → List ℕ → ℕ
 writeGives Read.End id out = cutShort
 writeGives (Read.Stop n) id out = n
-writeGives (Read.Got e next) id out = sendGives e id out
+writeGives (Read.Got w e next) id out = sendGives e id out
 
 unfoldable pub writeLeaves : Read → ℕ → List ℕ → List ℕ
 writeLeaves Read.End id out = out
 writeLeaves (Read.Stop n) id out = out
-writeLeaves (Read.Got e next) id out = sendLeaves e id out
+writeLeaves (Read.Got w e next) id out = sendLeaves e id out

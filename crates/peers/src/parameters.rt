@@ -144,10 +144,10 @@ pub extern "C" fn rev_write_parameter(entry: &[u8], out: &mut [u8]) -> u32
     ensures { λ r. ⌜ (r ≡ writeGives (recordAt (now (entry .entry))) (identifierAt (now (entry .entry))) (now (out .entry)))
         × (now (out .exit) ≡ writeLeaves (recordAt (now (entry .entry))) (identifierAt (now (entry .entry))) (now (out .entry))) ⌝ }
 {
-    let f = files::read_at(entry, 2);
+    let f = files::plain_at(entry, 2);
     match f {
         Read::End => CUT_SHORT,
         Read::Stop(n) => with_rest(n, 0),
-        Read::Got(e, _) => write_event(e, identifier(entry), out),
+        Read::Got(_, e, _) => write_event(e, identifier(entry), out),
     }
 }

@@ -1,5 +1,6 @@
-// What event the words of a line say. The guess goes by the words that tell fields apart and looks at nothing else; the line is known if
-// the words of the event, as the dump has them, are the line. So a wrong guess makes a line unknown: an event that is known has its words.
+// What event the words of a line say, and at which slot. The guess goes by the words that tell fields apart and looks at nothing else; the
+// line is known if the words of slot and event, as the dump has them, are the line. So a wrong guess makes a line unknown: what is known of
+// a line has its words.
 ghost use Prim.Native.Nat.{_≤_};
 ghost use Rattle.record.specs.Guess.{Right};
 use crate::Parsed;
@@ -9,9 +10,12 @@ use crate::pieces::is;
 use crate::pieces::numeric;
 use crate::pieces::piece;
 use crate::pieces::seconds;
+use crate::pieces::slot;
 use crate::pieces::small;
+use crate::pieces::start;
 use crate::pieces::value;
 use crate::pieces::word;
+use files::Where;
 use rows::ABSENT;
 use rows::Component;
 use rows::Event;
@@ -19,7 +23,7 @@ use rows::Message;
 use rows::Nature;
 use rows::Number;
 
-// Past the last word: a line has at most 18.
+// Past the last word: an event has at most 18.
 const NOWHERE: usize = 18;
 
 // A record has seven bits for a count: a greater one makes a line unknown.
@@ -332,16 +336,27 @@ fn guess(line: &[u8]) -> Event {
     message(line)
 }
 
+// Known, if the line says it.
+fn checked(line: &[u8], w: Where, e: Event) -> Parsed
+    ensures { λ r. ⌜ Right (now (line .entry)) r ⌝ }
+{
+    if files::says(line, w, e) {
+        return Parsed::Known(w, e);
+    }
+    Parsed::Unknown
+}
+
+// Where the first word is SLOT, the second is its number, and the words of the event come after them.
 pub(crate) fn event_of(line: &[u8]) -> Parsed
     ensures { λ r. ⌜ Right (now (line .entry)) r ⌝ }
 {
-    // the words of an event have fewer bytes, and a longer line need not be gone through
-    if 658 <= line.len() {
+    // the words of a slot and an event have fewer bytes, and a longer line need not be gone through
+    if 674 <= line.len() {
         return Parsed::Unknown;
     }
-    let e = guess(line);
-    if files::says(line, e) {
-        return Parsed::Known(e);
+    if is(word(line, 0), b"SLOT") {
+        let from = start(line, b' ', 2);
+        return checked(line, Where::Slot(slot(word(line, 1))), guess(&line[from..]));
     }
-    Parsed::Unknown
+    checked(line, Where::Plain, guess(line))
 }

@@ -8,7 +8,9 @@ use crate::pieces::is;
 use crate::pieces::numeric;
 use crate::pieces::start;
 use crate::pieces::word;
+use files::Where;
 use files::Written;
+use rows::Event;
 
 // What comes of a line: 0, 3 and 8 are the numbers that document 01 gives back; the others are for what is no event.
 pub(crate) const DONE: u8 = 0;
@@ -123,6 +125,14 @@ fn written(w: Written, to: usize, room: usize) -> Step
     }
 }
 
+// A plain record, or one of kind 7.
+fn write(w: Where, e: Event, out: &mut [u8]) -> Written {
+    match w {
+        Where::Plain => files::write_event(e, out),
+        Where::Slot(slot) => files::write_at_slot(slot, e, out),
+    }
+}
+
 // The words of one event, recorded at `to`.
 fn add(words: &[u8], out: &mut [u8], to: usize) -> Step
     requires { ⌜ to ≤ length (now out) ⌝ }
@@ -134,10 +144,10 @@ fn add(words: &[u8], out: &mut [u8], to: usize) -> Step
             field: 0,
             to,
         },
-        Parsed::Known(e) => {
+        Parsed::Known(w, e) => {
             let room = out.len() - to;
-            let w = files::write_event(e, &mut out[to..]);
-            written(w, to, room)
+            let answer = write(w, e, &mut out[to..]);
+            written(answer, to, room)
         }
     }
 }

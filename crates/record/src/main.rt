@@ -8,15 +8,16 @@ use crate::lines::BAD_FIELD;
 use crate::lines::DONE;
 use crate::lines::RETURN;
 use crate::lines::UNKNOWN;
+use files::Where;
 use libc::STDERR_FILENO;
 use libc::STDIN_FILENO;
 use libc::STDOUT_FILENO;
 use rows::Event;
 
-// What the words of a line say: no event, or this one.
+// What the words of a line say: no event; or this one, plain or at a slot.
 pub(crate) enum Parsed {
     Unknown,
-    Known(Event),
+    Known(Where, Event),
 }
 
 // Room for the dump of every file, which has fewer than 680,000 bytes, and for remarks; one byte more, so that a longer text is noticed.

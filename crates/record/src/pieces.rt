@@ -105,6 +105,15 @@ pub(crate) fn code(s: &[u8]) -> u8 {
     small(value(s))
 }
 
+// As a number of 16 bits, or 0.
+pub(crate) fn slot(s: &[u8]) -> u16 {
+    let n = value(s);
+    if n < 65536 {
+        return n as u16;
+    }
+    0
+}
+
 // As a number of 32 bits, or 0.
 pub(crate) fn seconds(s: &[u8]) -> u32 {
     let n = value(s);

@@ -12,11 +12,12 @@ returns c =
     let f = e .before .before .before .before in
     let g = f .before .before .before .before in
     let h = g .before .before .before .before .before in
-    (put-after (d .put .ensures) (put-after (e .put-meters .ensures .0) (put-after (f .put-stand .ensures .0) (put-after (g .put-numbered .ensures .0) (h .put-dec .ensures .0)))), search needs)
+    let i = h .before .before .before .before in
+    (put-after (d .put .ensures) (put-after (e .put-meters .ensures .0) (put-after (f .put-stand .ensures .0) (put-after (g .put-numbered .ensures .0) (put-after (h .put-slot .ensures .0) (i .put-dec .ensures .0))))), search needs)
 
 pub put-line-spec : {M : Type 1} → statement M
 put-line-spec =
     tie.close
     (tie.spec
-    (λ c. λ κs. search needs) (λ c. search needs) (λ c. λ κs. search needs) (λ c. λ κs. search needs) (λ c. λ κs. search needs)
-    (λ c. λ κs. search needs) (λ c. search needs) returns)
+    (λ c. λ κs. search needs) (λ c. λ κs. search needs) (λ c. search needs) (λ c. λ κs. search needs) (λ c. λ κs. search needs)
+    (λ c. λ κs. search needs) (λ c. λ κs. search needs) (λ c. search needs) returns)

@@ -8,4 +8,5 @@ unfolding placeAfter
 place-after-spec =
     tie.close
     (tie.spec
-    (λ c. search needs) (λ c. search needs) (λ c. search needs) (λ c. search needs) (λ c. search needs) (λ c. search needs))
+    (λ c. search needs) (λ c. search needs) (λ c. search needs) (λ c. simp (c .enum-told .given .1))
+    (λ c. simp (c .enum-told2 .given .1)) (λ c. simp (c .before .found .given .1)))

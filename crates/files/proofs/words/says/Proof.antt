@@ -1,4 +1,4 @@
--- What was put into the array is the event's words, as far as it was put.
+-- What was put into the array is the words, as far as it was put.
 -- Assumes nothing.
 use mathlib.Core.Path.{sym, _∙_}
 use borrow.Author.Needs.{needs}
@@ -12,7 +12,7 @@ slice-aggregate-begins-line c = sym (length-take-le _ _ (search needs))
 
 returns : tie.Need-returns
 returns c =
-    let p = c .before .before .before .put-event in
+    let p = c .before .before .before .put-entry in
     let w = put-first (search needs) (p .ensures .0) in
     record { right = λ e. c .begins-line .ensures .0 e ∙ w; whole = λ e. c .begins-line .ensures .1 (e ∙ sym w) }
 

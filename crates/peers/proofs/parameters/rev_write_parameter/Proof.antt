@@ -3,8 +3,8 @@ use borrow.Author.Needs.{needs}
 use Rattle.peers.proofs.parameters.rev_write_parameter.Statement.{statement}
 use Rattle.peers.proofs.parameters.rev_write_parameter.Tie as tie
 
-read-at-requires : tie.Need-read-at-requires
-read-at-requires c κs = search needs
+plain-at-requires : tie.Need-plain-at-requires
+plain-at-requires c κs = search needs
 
 enum-told : tie.Need-enum-told
 enum-told c = search needs
@@ -25,18 +25,18 @@ write-event-requires : tie.Need-write-event-requires
 write-event-requires c κs = search needs
 
 returns : tie.Need-returns
-returns c = entry-none _ _ _ _ (c .before .before .read-at .ensures) (c .enum-told .given .1)
+returns c = entry-none _ _ _ _ (c .before .before .plain-at .ensures) (c .enum-told .given .1)
 
 returns-2 : tie.Need-returns-2
 returns-2 c =
-    entry-stop _ _ _ _ (c .before .before .before .before .read-at .ensures) _ _ (c .before .before .f .given .1) (c .with-rest .ensures)
+    entry-stop _ _ _ _ (c .before .before .before .before .plain-at .ensures) _ _ (c .before .before .f .given .1) (c .with-rest .ensures)
 
 same-length : tie.Need-same-length
 same-length c = search needs
 
 returns-3 : tie.Need-returns-3
 returns-3 c =
-    entry-got _ _ _ _ (c .before .before .before .before .before .before .before .before .read-at .ensures) _ _ _ _ _
+    entry-got _ _ _ _ (c .before .before .before .before .before .before .before .before .plain-at .ensures) _ _ _ _ _ _
     (c .before .before .before .before .before .before .f2 .given .1) (c .before .before .before .before .identifier .ensures)
     (c .before .before .write-event .ensures)
 
@@ -44,7 +44,7 @@ pub rev-write-parameter-spec : {M : Type 1} → statement M
 rev-write-parameter-spec =
     tie.close
     (tie.spec
-    read-at-requires
+    plain-at-requires
     enum-told
     enum-known-f
     with-rest-requires
