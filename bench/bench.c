@@ -9,7 +9,7 @@
  *                                  the plain one
  *   bench [--roomy] --once WHICH KIND SIZE [CALLS]
  *                                  no table, but CALLS calls (1 if it is not said, and 0 is none): WHICH rev or plain,
- *                                  KIND call, messages or expiries, SIZE in KiB (1 to 64)
+ *                                  KIND call, messages, expiries or board, SIZE in KiB (1 to 64)
  *   bench --write WHICH KIND [CALLS]
  *                                  no table, but 64 KiB of records written CALLS times; KIND may also be times
  *   bench --read WHICH KIND [CALLS]
@@ -35,6 +35,8 @@
  *              Duration, which has no row; a time out of range; an expiry, which has no row
  *   messages   only messages of the longest form, 31 bytes, before the opening
  *   expiries   only expiries, 4 bytes, before the opening: the most lines that a file can give
+ *   board      the call 64 times over, each in a slot of its own, all of them under way at once: record by record from
+ *              slot to slot (02 #107)
  *
  * What is written is alike: a call of events in range, with an access event in the place of the time out of range; messages;
  * expiries; and times, of 8 bytes. The writers are called through pointers, and one record is written after another until
@@ -137,10 +139,12 @@ static const struct kind {
     size_t first_count;
     const struct record *again; /* over and over */
     size_t again_count;
+    size_t slots; /* each record in each of so many slots before the next, or 0: plain records */
 } kinds[] = {
-    {"call", opening, sizeof opening / sizeof *opening, cycle, sizeof cycle / sizeof *cycle},
-    {"messages", NULL, 0, message, 1},
-    {"expiries", NULL, 0, expiry, 1},
+    {"call", opening, sizeof opening / sizeof *opening, cycle, sizeof cycle / sizeof *cycle, 0},
+    {"messages", NULL, 0, message, 1, 0},
+    {"expiries", NULL, 0, expiry, 1, 0},
+    {"board", opening, sizeof opening / sizeof *opening, cycle, sizeof cycle / sizeof *cycle, REV_SLOTS},
 };
 
 enum { KINDS = sizeof kinds / sizeof *kinds };
@@ -149,19 +153,34 @@ static const size_t sizes[] = {1 * KIB, 16 * KIB, 64 * KIB};
 
 enum { SIZES = sizeof sizes / sizeof *sizes };
 
+/* Puts a record at a place of `file`, in a slot unless there are none; gives its size. */
+static size_t put_record(size_t at, const struct record *record, size_t slots, size_t slot)
+{
+    const uint8_t head[] = {(uint8_t)(record->size + 4), 0, 7, 0, (uint8_t)slot, 0};
+    size_t before = slots > 0 ? sizeof head : 0;
+
+    memcpy(file + at, head, before);
+    memcpy(file + at + before, record->bytes, record->size);
+    return before + record->size;
+}
+
 /* Fills `file` with whole records, up to `size` bytes; gives its length. */
 static size_t build(const struct kind *kind, size_t size)
 {
-    size_t length = 0;
+    size_t length = 0, slots = kind->slots, slot = 0;
 
-    for (size_t i = 0;; i++) {
+    for (size_t i = 0;;) {
         const struct record *next =
             i < kind->first_count ? &kind->first[i] : &kind->again[(i - kind->first_count) % kind->again_count];
 
-        if (next->size > size - length)
+        if (next->size + (slots > 0 ? 6 : 0) > size - length)
             return length;
-        memcpy(file + length, next->bytes, next->size);
-        length += next->size;
+        length += put_record(length, next, slots, slot);
+        slot++;
+        if (slot >= slots) {
+            slot = 0;
+            i++;
+        }
     }
 }
 
@@ -1030,7 +1049,7 @@ int main(int count, char **words)
     else if ((count == 4 || count == 5) && !roomy)
         status = exchange_once(words[1], words[2], words[3], count == 5 ? words[4] : "1");
     if (status == 2)
-        fputs("usage: bench [--roomy] [--once rev|plain call|messages|expiries 1..64 [CALLS]]\n"
+        fputs("usage: bench [--roomy] [--once rev|plain call|messages|expiries|board 1..64 [CALLS]]\n"
               "       bench --write rev|plain call|messages|expiries|times [CALLS]\n"
               "       bench --read rev|plain usual|full|looser|several|refused [CALLS]\n"
               "       bench --send rev|plain usual|full [CALLS]\n"

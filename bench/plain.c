@@ -6,7 +6,8 @@
  * Nothing may be written if the listing doesn't fit. A record's text has a longest form, so the bytes left of a file
  * bound the text to come: as soon as this bound says that the buffer is large enough, the file is listed in one run
  * with no further check. Only while it doesn't are records measured first (see `fits`). That is faster than to measure
- * every file and then to write it; a buffer of exactly the listing's length is the worst case and takes both runs.
+ * every file and then to write it; a buffer of exactly the listing's length is the worst case and takes both runs. Whether
+ * lines have slots hangs on all records, so what is not measured is at least looked through for one of kind 7.
  */
 #include "plain.h"
 
@@ -16,9 +17,13 @@ enum {
     LONGEST_FILE = 65536,
     DAY = 86400,       /* the longest time event */
     YEAR = 31536000,   /* the largest sum of the meters, the largest total, and the largest Duration */
-    RECORD_TEXT = 192, /* no record's text is longer: the line takes up to 62 bytes, O27's actions 84, 18 and 7 */
+    RECORD_TEXT = 192, /* no record's text is longer: the line takes up to 68 bytes, O27's actions 84, 18 and 7 */
     END_TEXT = sizeof "END 16384\n" - 1,
-    SHORTEST_RECORD = 4
+    SHORTEST_RECORD = 4,
+    LONGEST_PLAIN = 29, /* by the lengths that they say, plain records and those of kind 7 */
+    LONGEST_LENGTH = 35,
+    SLOT_BYTES = 6, /* what a record of kind 7 has before the one inside: its head and the slot */
+    SLOTS = 64
 };
 
 /* ---- The call ---- */
@@ -37,7 +42,8 @@ enum answer {
     WRONG_PHASE = 15,
     WRONG_STATE = 16,
     BEFORE_OPENING = 17,
-    SECOND_OPENING = 18
+    NO_SUCH_SLOT = 19,
+    IN_USE = 20
 };
 
 enum role { ORIGINATING, DESTINATION };
@@ -82,7 +88,7 @@ struct call {
 
 /* ---- Events ---- */
 
-enum kind { KIND_OPENING = 1, KIND_REQUEST, KIND_MESSAGE, KIND_ACCESS, KIND_EXPIRY, KIND_TIME };
+enum kind { KIND_OPENING = 1, KIND_REQUEST, KIND_MESSAGE, KIND_ACCESS, KIND_EXPIRY, KIND_TIME, KIND_IN_SLOT };
 
 enum request { REQUEST_BASIC, REQUEST_A, REQUEST_B, REQUEST_C };
 
@@ -152,51 +158,86 @@ static unsigned parts_length(unsigned parts)
     return (parts & PART_CALLING ? 9 : 0) + (parts & PART_CALLED ? 9 : 0) + (parts & PART_DURATION ? 4 : 0);
 }
 
+/* Judges the kind of a plain record that is whole, and then its length. */
+static inline enum answer judge_kind(const uint8_t *at, unsigned length)
+{
+    static const uint8_t lengths[] = {
+        [KIND_OPENING] = 13, [KIND_REQUEST] = 12, [KIND_MESSAGE] = 7, [KIND_ACCESS] = 4, [KIND_EXPIRY] = 2, [KIND_TIME] = 6};
+    unsigned kind = two_bytes(at + 2), right;
+
+    if (kind < KIND_OPENING || kind > KIND_TIME)
+        return UNKNOWN_KIND;
+    right = lengths[kind];
+    if (kind == KIND_MESSAGE && length >= 7)
+        right += parts_length(at[8]);
+    return length == right ? APPLIED : BAD_LENGTH;
+}
+
+/* A record where it stands: the plain one, or the one inside of kind 7, and the slot. */
+struct frame {
+    const uint8_t *plain;
+    size_t size; /* what the record takes in the file */
+    unsigned slot;
+    bool in_slot; /* whether it is of kind 7 */
+};
+
+/* Judges what is inside a record of kind 7 that is whole: a length that fills it, then a kind of a plain record, then that kind's length. */
+static inline enum answer read_inside(const uint8_t *at, unsigned length, struct frame *frame)
+{
+    unsigned inner = length - SLOT_BYTES;
+
+    if (length < SLOT_BYTES + 2 || two_bytes(at + SLOT_BYTES) != inner)
+        return BAD_LENGTH;
+    frame->plain = at + SLOT_BYTES;
+    frame->slot = two_bytes(at + 4);
+    frame->in_slot = true;
+    return judge_kind(frame->plain, inner);
+}
+
 /*
  * Judges the framing of the record at `at`, where at least one byte is left. The order is 5 (no two length bytes), 6
- * (the range), 5 (bytes lack), 7, 6 (not the kind's length). `size` is what the record takes in the file.
+ * (the range; 30 to 35 with another kind than 7, of which two bytes have to be there, else 5), 5 (bytes lack), then the
+ * kind: 7, 6 (not the kind's length), and in kind 7 what is inside.
  */
-static enum answer read_frame(const uint8_t *at, size_t left, enum kind *kind, size_t *size)
+static inline enum answer read_frame(const uint8_t *at, size_t left, struct frame *frame)
 {
-    unsigned length, right;
+    unsigned length;
 
     if (left < 2)
         return CUT_SHORT;
     length = two_bytes(at);
-    if (length < 2 || length > 29)
+    if (length < 2 || length > LONGEST_LENGTH)
+        return BAD_LENGTH;
+    if (length > LONGEST_PLAIN) {
+        if (left < 4)
+            return CUT_SHORT;
+        if (two_bytes(at + 2) != KIND_IN_SLOT)
+            return BAD_LENGTH;
+    }
+    if (left - 2 < length)
+        return CUT_SHORT;
+    frame->size = 2 + length;
+    if (two_bytes(at + 2) == KIND_IN_SLOT)
+        return read_inside(at, length, frame);
+    frame->plain = at;
+    frame->slot = 0;
+    frame->in_slot = false;
+    return judge_kind(at, length);
+}
+
+/* The same for a plain record alone, by itself: none is of kind 7, and none is longer than 29. */
+static enum answer read_plain(const uint8_t *at, size_t left)
+{
+    unsigned length;
+
+    if (left < 2)
+        return CUT_SHORT;
+    length = two_bytes(at);
+    if (length < 2 || length > LONGEST_PLAIN)
         return BAD_LENGTH;
     if (left - 2 < length)
         return CUT_SHORT;
-    switch (two_bytes(at + 2)) {
-    case KIND_OPENING:
-        *kind = KIND_OPENING;
-        right = 13;
-        break;
-    case KIND_REQUEST:
-        *kind = KIND_REQUEST;
-        right = 12;
-        break;
-    case KIND_MESSAGE:
-        *kind = KIND_MESSAGE;
-        right = length < 7 ? 7 : 7 + parts_length(at[8]);
-        break;
-    case KIND_ACCESS:
-        *kind = KIND_ACCESS;
-        right = 4;
-        break;
-    case KIND_EXPIRY:
-        *kind = KIND_EXPIRY;
-        right = 2;
-        break;
-    case KIND_TIME:
-        *kind = KIND_TIME;
-        right = 6;
-        break;
-    default:
-        return UNKNOWN_KIND;
-    }
-    *size = 2 + length;
-    return length == right ? APPLIED : BAD_LENGTH;
+    return judge_kind(at, length);
 }
 
 static int detail_in_range(unsigned component, unsigned detail)
@@ -221,67 +262,76 @@ static int parts_in_range(unsigned parts)
     return !(parts & PART_UNKNOWN) && (parts & (PART_ACCEPTED | PART_AS_TRANSFER)) != PART_AS_TRANSFER;
 }
 
-static int read_message(const uint8_t *body, struct event *event)
+static unsigned read_message(const uint8_t *body, struct event *event)
 {
     const uint8_t *at = body + 5;
+    unsigned ordinal = 5;
 
     event->item = body[0];
     event->cause = body[1];
     event->component = body[2];
     event->detail = body[3];
     event->bits = body[4];
-    if (event->item < IAM || event->item > FAC || event->cause > 127)
-        return 0;
+    if (event->item < IAM || event->item > FAC)
+        return 1;
+    if (event->cause > 127)
+        return 2;
+    if (event->component > REJECT)
+        return 3;
     if (!detail_in_range(event->component, event->detail))
-        return 0;
+        return 4;
     if (!parts_in_range(event->bits))
-        return 0;
-    if (event->bits & PART_CALLING) {
+        return 5;
+    for (unsigned part = PART_CALLING; part <= PART_CALLED; part <<= 1) {
+        if (!(event->bits & part))
+            continue;
+        ordinal++;
         if (!digits_in_range(read_digits(at)))
-            return 0;
-        at += 9;
-    }
-    if (event->bits & PART_CALLED) {
-        if (!digits_in_range(read_digits(at)))
-            return 0;
+            return ordinal;
         at += 9;
     }
     if (event->bits & PART_DURATION)
         event->seconds = four_bytes(at);
-    return 1;
+    return 0;
 }
 
-/* Reads the fields of a well-framed record; gives 0 if one is out of its range (number 3). */
-static int read_event(const uint8_t *body, struct event *event)
+static unsigned read_request(const uint8_t *body, struct event *event)
 {
-    struct digits digits;
+    struct digits digits = read_digits(body + 1);
 
+    event->item = body[0];
+    if (event->item > REQUEST_C)
+        return 1;
+    if (event->item <= REQUEST_A ? !digits_in_range(digits) : !digits_absent(digits))
+        return 2;
+    return 0;
+}
+
+/* Reads the fields of a well-framed record; gives which is the first that is out of its range (number 3), from 1, or 0. */
+static unsigned read_event(const uint8_t *body, struct event *event)
+{
     switch (event->kind) {
     case KIND_OPENING:
         event->item = body[0];
         event->bits = body[1];
         event->own = read_digits(body + 2);
-        return event->item <= DESTINATION && event->bits < 32 && digits_in_range(event->own);
+        return event->item > DESTINATION ? 1 : event->bits > 31 ? 2 : digits_in_range(event->own) ? 0 : 3;
     case KIND_REQUEST:
-        event->item = body[0];
-        digits = read_digits(body + 1);
-        if (event->item <= REQUEST_A)
-            return digits_in_range(digits);
-        return event->item <= REQUEST_C && digits_absent(digits);
+        return read_request(body, event);
     case KIND_MESSAGE:
         return read_message(body, event);
     case KIND_ACCESS:
         event->item = body[0];
         event->detail = body[1];
-        return event->item >= ACCESS_ACCEPT && event->item <= ACCESS_ANSWER &&
-               (event->item == ACCESS_ERROR || event->detail == 0);
-    case KIND_EXPIRY:
-        return 1;
+        if (event->item < ACCESS_ACCEPT || event->item > ACCESS_ANSWER)
+            return 1;
+        return event->item == ACCESS_ERROR || event->detail == 0 ? 0 : 2;
     case KIND_TIME:
         event->seconds = four_bytes(body);
-        return event->seconds <= DAY;
+        return event->seconds > DAY;
+    default: /* an expiry has none */
+        return 0;
     }
-    return 0;
 }
 
 /* ---- Actions ---- */
@@ -1051,18 +1101,15 @@ static enum answer find_row(struct call *call, struct actions *actions, const st
 }
 
 /*
- * An opening comes to a call before it, every other event to one after it. Where the answer isn't APPLIED the call is as before and there
- * are no actions.
+ * An opening comes to a call that was never opened or has cleared, every other event to one that was opened. Where the answer isn't APPLIED
+ * the call is as before and there are no actions.
  */
 static enum answer take(struct call *call, struct actions *actions, const struct event *event)
 {
     enum answer answer;
 
-    if (event->kind == KIND_OPENING) { /* G1 */
-        call->role = event->item;
-        call->flags = event->bits;
-        call->own = event->own;
-        call->phase = PHASE_NULL;
+    if (event->kind == KIND_OPENING) { /* G1: nothing of a call that has cleared is left */
+        *call = (struct call){.role = event->item, .flags = event->bits, .own = event->own, .phase = PHASE_NULL};
         return APPLIED;
     }
     answer = find_row(call, actions, event);
@@ -1221,19 +1268,23 @@ static uint8_t *put_action(uint8_t *to, const struct action *action, const struc
     return to;
 }
 
-/* No answer is above 19. */
+/* No answer is above 21. */
 static uint8_t *put_answer(uint8_t *to, enum answer answer)
 {
     if (answer >= 10)
-        *to++ = '1';
+        *to++ = answer >= 20 ? '2' : '1';
     *to++ = '0' + answer % 10;
     return to;
 }
 
-static uint8_t *put_line(uint8_t *to, unsigned ordinal, enum answer answer, const struct call *call)
+static uint8_t *put_line(uint8_t *to, unsigned ordinal, bool with_slot, unsigned slot, enum answer answer, const struct call *call)
 {
     to = put_number(to, ordinal);
     *to++ = ' ';
+    if (with_slot) {
+        to = put_number(to, slot);
+        *to++ = ' ';
+    }
     to = put_answer(to, answer);
     to = put_phase(to, call->phase);
     to = put_rev(to, call->rev);
@@ -1248,44 +1299,80 @@ static uint8_t *put_line(uint8_t *to, unsigned ordinal, enum answer answer, cons
 
 /* ---- The listing ---- */
 
-/* A file being read: the bytes left, the call so far, the records shown. */
+/* A file being read: the bytes left, the calls so far, the records shown, and whether lines have slots, as far as is known. */
 struct history {
     const uint8_t *at, *end;
-    struct call call;
+    struct call calls[SLOTS];
     unsigned shown;
+    bool slots;
 };
 
-static struct history begin(const uint8_t *file, size_t file_len)
+static void begin(struct history *history, const uint8_t *file, size_t file_len, bool slots)
 {
-    return (struct history){.at = file, .end = file + file_len};
+    memset(history, 0, sizeof *history);
+    history->at = file;
+    history->end = file + file_len;
+    history->slots = slots;
 }
 
-/* Judges a well-framed record: 17 or 18 by its kind alone, then 3, then what the event gets. */
-static enum answer judge(struct call *call, struct actions *actions, const uint8_t *body, struct event *event)
+/* Whether a record of kind 7 passes the framing before the reading stops: then all lines have slots. */
+static bool has_slots(const uint8_t *file, size_t file_len)
 {
-    if ((event->kind == KIND_OPENING) != (call->phase == PHASE_NONE))
-        return event->kind == KIND_OPENING ? SECOND_OPENING : BEFORE_OPENING;
-    return read_event(body, event) ? take(call, actions, event) : OUT_OF_RANGE;
+    struct frame frame;
+
+    while (file_len > 0 && read_frame(file, file_len, &frame) == APPLIED) {
+        if (frame.in_slot)
+            return true;
+        file += frame.size;
+        file_len -= frame.size;
+    }
+    return false;
 }
 
-/* Takes the next record and writes its line and actions. Reading stops after 5, 6 and 7. */
-static uint8_t *put_record(uint8_t *to, struct history *history)
+/* Judges a well-framed record: 17 or 20 by its kind alone, then 3, then what the event gets. */
+static enum answer judge(struct call *call, struct actions *actions, const uint8_t *plain)
 {
     struct event event;
+
+    event.kind = plain[2];
+    if (event.kind == KIND_OPENING) {
+        if (call->phase != PHASE_NONE && call->phase != PHASE_CLEARED)
+            return IN_USE;
+    } else if (call->phase == PHASE_NONE) {
+        return BEFORE_OPENING;
+    }
+    return read_event(plain + 4, &event) == 0 ? take(call, actions, &event) : OUT_OF_RANGE;
+}
+
+/* Takes the next record and writes its line and actions. Reading stops after 5, 6 and 7, which show slot 0. */
+static uint8_t *put_record(uint8_t *to, struct history *history)
+{
+    static const struct call no_call;
+    const struct call *shown = history->calls;
     struct actions actions;
-    size_t size;
-    enum answer answer = read_frame(history->at, (size_t)(history->end - history->at), &event.kind, &size);
+    struct frame frame;
+    enum answer answer = read_frame(history->at, (size_t)(history->end - history->at), &frame);
 
     actions.count = 0;
     if (answer != APPLIED) {
         history->at = history->end;
+        frame.slot = 0;
     } else {
-        answer = judge(&history->call, &actions, history->at + 4, &event);
-        history->at += size;
+        history->at += frame.size;
+        history->slots |= frame.in_slot;
+        if (frame.slot < SLOTS) {
+            struct call *call = &history->calls[frame.slot];
+
+            answer = judge(call, &actions, frame.plain);
+            shown = call;
+        } else {
+            answer = NO_SUCH_SLOT;
+            shown = &no_call;
+        }
     }
-    to = put_line(to, ++history->shown, answer, &history->call);
+    to = put_line(to, ++history->shown, history->slots, frame.slot, answer, shown);
     for (unsigned i = 0; i < actions.count; i++)
-        to = put_action(to, &actions.list[i], &history->call);
+        to = put_action(to, &actions.list[i], shown);
     return to;
 }
 
@@ -1295,26 +1382,35 @@ static uint8_t *put_end(uint8_t *to, const struct history *history)
 }
 
 /*
- * Whether the listing fits into `room` bytes. Each record is put into a scratch place for its length, but only until
- * the rest fits even if it is all of the shortest records with the longest text.
+ * Whether the listing fits into `room` bytes, and whether its lines have slots. Each record is put into a scratch place for
+ * its length, but only until the rest fits even if it is all of the shortest records with the longest text. The first record
+ * of kind 7 puts slot 0 on the lines of those before it, which are plain: two bytes more on each.
  */
-static int fits(const uint8_t *file, size_t file_len, size_t room)
+static int fits(const uint8_t *file, size_t file_len, size_t room, bool *slots)
 {
-    struct history history = begin(file, file_len);
+    struct history history;
     uint8_t scratch[RECORD_TEXT];
     size_t length = sizeof "REV 1\n" - 1;
+    bool had_slots;
 
+    begin(&history, file, file_len, false);
     while (history.at != history.end) {
         size_t left = (size_t)(history.end - history.at);
         size_t records = (left + SHORTEST_RECORD - 1) / SHORTEST_RECORD;
 
-        if (length + records * RECORD_TEXT + END_TEXT <= room)
+        if (length + (history.slots ? 0 : 2 * history.shown) + records * RECORD_TEXT + END_TEXT <= room) {
+            *slots = history.slots || has_slots(history.at, left);
             return 1;
+        }
         if (length > room)
             return 0;
+        had_slots = history.slots;
         length += (size_t)(put_record(scratch, &history) - scratch);
+        if (history.slots && !had_slots)
+            length += 2 * (history.shown - 1);
     }
     length += (size_t)(put_end(scratch, &history) - scratch);
+    *slots = history.slots;
     return length <= room;
 }
 
@@ -1322,10 +1418,11 @@ size_t plain_listing(const uint8_t *file, size_t file_len, uint8_t *out, size_t 
 {
     struct history history;
     uint8_t *to;
+    bool slots;
 
-    if (file_len > LONGEST_FILE || !fits(file, file_len, out_len))
+    if (file_len > LONGEST_FILE || !fits(file, file_len, out_len, &slots))
         return REFUSED;
-    history = begin(file, file_len);
+    begin(&history, file, file_len, slots);
     to = PUT(out, "REV 1\n");
     while (history.at != history.end)
         to = put_record(to, &history);
@@ -1470,5 +1567,26 @@ uint32_t plain_write_time(uint32_t seconds, uint8_t *out, size_t out_len)
     if (out_len < 8)
         return REFUSED;
     store_four(store_head(out, 6, KIND_TIME), seconds);
+    return APPLIED;
+}
+
+uint32_t plain_write_slot(uint16_t slot, const uint8_t *record, size_t record_len, uint8_t *out, size_t out_len)
+{
+    enum answer framed = read_plain(record, record_len);
+    struct event event;
+    unsigned length, bad;
+
+    if (framed != APPLIED)
+        return framed;
+    event.kind = record[2];
+    bad = read_event(record + 4, &event);
+    if (bad != 0)
+        return bad_field(bad);
+    length = two_bytes(record);
+    if (out_len < SLOT_BYTES + 2 + length)
+        return REFUSED;
+    store_head(out, SLOT_BYTES + length, KIND_IN_SLOT);
+    memcpy(out + 4, &slot, sizeof slot);
+    memcpy(out + SLOT_BYTES, record, 2 + length);
     return APPLIED;
 }

@@ -30,6 +30,12 @@ uint32_t plain_write_expiry(uint8_t *out, size_t out_len);
 uint32_t plain_write_time(uint32_t seconds, uint8_t *out, size_t out_len);
 
 /*
+ * Writes the record of kind 7 that names `slot` and has the plain record at `record` inside, which ends where its own length says: what
+ * follows it is not looked at. Gives 5, 6 or 7 where no whole plain record stands there; then it is as the others. The two must not overlap.
+ */
+uint32_t plain_write_slot(uint16_t slot, const uint8_t *record, size_t record_len, uint8_t *out, size_t out_len);
+
+/*
  * Reads the whole parameter at `parameter` and writes an entry for each of its components to `out`, or one of no component: the identifier
  * in two bytes, of which 256 is none, and the record of kind 3 with this message and cause. Gives a number and in the bits above its byte
  * a place, a field or a length: 11 to 14 and the place; 3 and 1 where the message is out of its range, 3 and 2 where the cause is; 8 where

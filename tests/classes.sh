@@ -30,4 +30,4 @@ if ! diff $room/classes.page $room/classes.txt >$room/classes.diff; then
     cat $room/classes.diff
     exit 1
 fi
-echo "classes: the library gives a row, 1, 15 or 16 to each event in each place as docs/ROWS.md has it, and 17 and 18 around the opening"
+echo "classes: the library gives a row, 1, 15 or 16 to each event in each place as docs/ROWS.md has it, and 17 and 20 around the opening"

@@ -316,6 +316,71 @@ RECORDS 12
 END
 check "$@"
 
+what="records in slots: each kind, the first slot and the last of a row, slots that no row has, and plain records among them"
+bytes 13 00 07 00 05 00 0D 00 01 00 00 09 07 14 B0 54 00 00 00 00 00 \
+    12 00 07 00 00 00 0C 00 02 00 02 00 00 00 00 00 00 00 00 00 \
+    0D 00 07 00 3F 00 07 00 03 00 02 00 02 01 00 \
+    0A 00 07 00 40 00 04 00 04 00 04 00 \
+    06 00 06 00 3C 00 00 00 \
+    08 00 07 00 FF FF 02 00 05 00 \
+    0C 00 07 00 00 01 06 00 06 00 3C 00 00 00 \
+    02 00 05 00
+cat >target/dump/wanted <<'END'
+RECORDS 8
+1 0 SLOT 5 OPENING originating transfer,interaction 5550100
+2 21 SLOT 0 REQUEST B -
+3 41 SLOT 63 ANM 0 RESULT SETUP
+4 56 SLOT 64 ACCESS CLEAR 0
+5 68 TIME 60
+6 76 SLOT 65535 EXPIRY
+7 86 SLOT 256 TIME 60
+8 100 EXPIRY
+END
+check "$@"
+
+what="records in slots: fields out of range, and the longest record of all"
+bytes 13 00 07 00 0A 00 0D 00 01 00 07 20 80 00 00 00 00 00 00 00 00 \
+    0C 00 07 00 63 00 06 00 06 00 FF FF FF FF \
+    0A 00 07 00 E7 03 04 00 04 00 06 01 \
+    23 00 07 00 10 27 1D 00 03 00 09 C8 FE FD FF 00 01 00 00 00 00 00 00 00 14 05 00 00 00 00 00 00 00 FF FF FF FF
+cat >target/dump/wanted <<'END'
+RECORDS 4
+1 0 SLOT 10 OPENING 7 32 +0:0
+2 21 SLOT 99 TIME 4294967295
+3 35 SLOT 999 ACCESS 6 1
+4 47 SLOT 10000 MESSAGE 9 200 COMPONENT 254 253 TRANSFER ACCEPTED AS-TRANSFER PARTIAL CALLING 0:1 CALLED 20:5 DURATION 4294967295 PART 128
+END
+check "$@"
+
+# the last record of a file, in hex, and what its line says of it: of those of kind 7, and of the lengths that only they have
+while IFS=: read -r hex word; do
+    what="stops with $word:$hex"
+    # shellcheck disable=SC2086 # a byte a word
+    bytes 08 00 07 00 01 00 02 00 05 00 $hex
+    printf 'RECORDS 2\n1 0 SLOT 1 EXPIRY\n2 10 %s\n' "$word" >target/dump/wanted
+    check "$@"
+done <<'END'
+ 1E 00:CUT-SHORT
+ 23 00 07:CUT-SHORT
+ 1E 00 07 00:CUT-SHORT
+ 08 00 07 00 01 00 02 00 05:CUT-SHORT
+ 07 00 07 00 01 00:CUT-SHORT
+ 1E 00 03 00:BAD-LENGTH
+ 23 00 09 00:BAD-LENGTH
+ 24 00 07 00:BAD-LENGTH
+ 02 00 07 00:BAD-LENGTH
+ 07 00 07 00 01 00 02 00 05 02 00 05 00:BAD-LENGTH
+ 09 00 07 00 01 00 02 00 05 00 00:BAD-LENGTH
+ 08 00 07 00 01 00 03 00 05 00 00:BAD-LENGTH
+ 08 00 07 00 01 00 03 00 09 00:BAD-LENGTH
+ 08 00 07 00 01 00 02 00 06 00:BAD-LENGTH
+ 0D 00 07 00 01 00 07 00 03 00 05 00 00 00 10:BAD-LENGTH
+ 08 00 07 00 01 00 02 00 00 00:UNKNOWN-KIND
+ 08 00 07 00 01 00 02 00 05 01:UNKNOWN-KIND
+ 0E 00 07 00 01 00 08 00 07 00 01 00 02 00 05 00:UNKNOWN-KIND
+ 08 00 07 01 01 00 02 00 05 00:UNKNOWN-KIND
+END
+
 what="a length that no record has"
 bytes 02 00 05 00 01 00 05 00 02 00 05 00
 printf 'RECORDS 2\n1 0 EXPIRY\n2 4 BAD-LENGTH\n' >target/dump/wanted
@@ -327,7 +392,7 @@ printf 'RECORDS 2\n1 0 EXPIRY\n2 4 BAD-LENGTH\n' >target/dump/wanted
 check "$@"
 
 what="a kind that is none"
-bytes 02 00 05 00 02 00 07 00 02 00 05 00
+bytes 02 00 05 00 02 00 08 00 02 00 05 00
 printf 'RECORDS 2\n1 0 EXPIRY\n2 4 UNKNOWN-KIND\n' >target/dump/wanted
 check "$@"
 
@@ -350,6 +415,16 @@ awk 'BEGIN {
     print "RECORDS 7282"
     for (i = 1; i <= 7281; i++) print i, 9 * (i - 1), words
     print "7282 65529 CUT-SHORT"
+}' >target/dump/wanted
+check "$@"
+
+what="6,553 expiries in slots, and a record that is cut short"
+bytes 08 00 07 00 FF FF 02 00 05 00
+fill 65536
+awk 'BEGIN {
+    print "RECORDS 6554"
+    for (i = 1; i <= 6553; i++) print i, 10 * (i - 1), "SLOT 65535 EXPIRY"
+    print "6554 65530 CUT-SHORT"
 }' >target/dump/wanted
 check "$@"
 

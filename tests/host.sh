@@ -13,7 +13,8 @@ sh host/c/build
 archive=target/staticlib/librev.a
 room=target/host
 functions='rev_dump rev_listing rev_read_parameter rev_same_number '
-functions=$functions'rev_write_access rev_write_expiry rev_write_message rev_write_opening rev_write_parameter rev_write_request rev_write_time '
+functions=$functions'rev_write_access rev_write_expiry rev_write_message rev_write_opening rev_write_parameter rev_write_request '
+functions=$functions'rev_write_slot rev_write_time '
 # so that a finding is none of the example's own statuses
 export ASAN_OPTIONS=exitcode=99 UBSAN_OPTIONS=exitcode=99
 
@@ -82,15 +83,29 @@ check_writing() {
     cmp -s $room/printed $room/case-l.txt || fail "$hosts/write does not print the listing of case L"
     written=$(od -An -v -tx1 $room/case-l.rev | tr -d ' \n')
     [ "$written" = "$(tr -d '\n' <$room/case-l.hex)" ] || fail "$hosts/write does not write the records of case L"
+    for slot in 0 63; do # the same call on a board: each record is six bytes longer, and each line has the slot after the ordinal
+        run_x86_64 "$hosts/write" $room/in-slot.rev $slot >$room/printed || fail "$hosts/write ended with $?"
+        awk -v slot=$slot '/^[0-9]/ { $1 = $1 " " slot } { print }' $room/case-l.txt >$room/in-slot.txt
+        cmp -s $room/printed $room/in-slot.txt || fail "$hosts/write does not print the listing of case L in slot $slot"
+        awk -v slot=$slot 'function byte(h) { return 16 * digit(h, 1) + digit(h, 2) }
+            function digit(h, at) { return index("0123456789abcdef", substr(h, at, 1)) - 1 }
+            { printf "%02x000700%02x00%s", byte($0) + 6, slot, $0 }' $room/case-l.hex >$room/in-slot.hex
+        written=$(od -An -v -tx1 $room/in-slot.rev | tr -d ' \n')
+        [ "$written" = "$(cat $room/in-slot.hex)" ] || fail "$hosts/write does not write the records of case L in slot $slot"
+    done
     program='write'
     refuses 2 "usage: write FILE"
     refuses 2 "usage: write FILE" $room/one.rev $room/two.rev
+    refuses 2 "usage: write FILE" $room/one.rev 5 5
+    for slot in 64 65536 -1 +1 ' 1' '1 ' 5x ''; do
+        refuses 2 "usage: write FILE" $room/one.rev "$slot"
+    done
     refuses 2 "$room: Is a directory" $room
     want=2 saying='standard output: ' status=0
     run_x86_64 "$hosts/write" $room/case-l.rev >/dev/full 2>$room/said || status=$?
     check_said ">/dev/full"
     program=example
-    echo "host: $hosts/write writes case L and prints its listing"
+    echo "host: $hosts/write writes case L, plain and in a slot, and prints its listing"
 }
 
 # prints TEXT WORDS..: the example with these words prints the text of that file.

@@ -1,7 +1,8 @@
 #!/bin/sh
-# random.sh [--count N] [--seed S]: generated event files (10,000 of seed 1 where it is not said), damaged ones among them, listed by the
-# proved library, by the bench's plain C and by the independent model in host/reference, and compared byte for byte; before that the
-# model's own tests. On a terminal a line tells how far it is. Needs a C compiler and cargo.
+# random.sh [--count N] [--seed S]: generated event files (10,000 of seed 1 where it is not said), every second one of a board, damaged ones
+# among them, listed by the proved library, by the bench's plain C and by the independent model in host/reference, and compared byte for
+# byte; before that the model's own tests. So 100,000 files of a board take --count 200000. It fails too where 10,000 files or more do not
+# reach all that a file can reach. On a terminal a line tells how far it is. Needs a C compiler and cargo.
 set -eu
 cd "$(dirname "$0")/.."
 who=random.sh count=10000 seed=1
@@ -39,6 +40,10 @@ compare() {
         cat target/host/random.log
         echo "random: $name and the model differ, or $name does not answer" >&2
         exit $status
+    fi
+    if [ "$count" -ge 10000 ] && grep '^not reached: ' target/host/random.log; then
+        echo "random: $name: what is told above was not reached" >&2
+        exit 1
     fi
     tail -n 1 target/host/random.log | sed "s/^/random: $name: /"
 }

@@ -322,6 +322,56 @@ ACCESS 1 0
 ACCESS 5 0
 ACCESS 06 0
 ACCESS 256 0
+SLOT
+SLOT 
+SLOT 5
+SLOT 5 
+SLOT EXPIRY
+SLOT EXPIRY 5
+SLOT  5 EXPIRY
+SLOT 5  EXPIRY
+SLOT 5 EXPIRY 
+ SLOT 5 EXPIRY
+SLOT\t5 EXPIRY
+SLOT 5\tEXPIRY
+SLOT5 EXPIRY
+SLOT 5EXPIRY
+SLOT,5 EXPIRY
+SLOT:5 EXPIRY
+SLOT 5: EXPIRY
+SLOTS 5 EXPIRY
+SLO 5 EXPIRY
+slot 5 EXPIRY
+Slot 5 EXPIRY
+SLOT 05 EXPIRY
+SLOT 00 EXPIRY
+SLOT +5 EXPIRY
+SLOT -1 EXPIRY
+SLOT - EXPIRY
+SLOT x EXPIRY
+SLOT 5x EXPIRY
+SLOT 0x5 EXPIRY
+SLOT 65536 EXPIRY
+SLOT 65541 EXPIRY
+SLOT 99999 EXPIRY
+SLOT 4294967301 EXPIRY
+SLOT 18446744073709551621 EXPIRY
+SLOT 340282366920938463463374607431768211461 EXPIRY
+SLOT 5 5 EXPIRY
+SLOT 5 1 0 EXPIRY
+SLOT 5 SLOT 5 EXPIRY
+SLOT 5 SLOT 6 TIME 60
+SLOT 5 TIME
+SLOT 5 TIME 060
+SLOT 5 TIME 60 60
+SLOT 5 time 60
+SLOT 5 OPENING 0 - 5550100
+SLOT 5 CUT-SHORT
+SLOT 5 RECORDS 1
+SLOT 5 # a remark
+1 SLOT 5 EXPIRY
+EXPIRY SLOT 5
+TIME 60 SLOT 5
 CUT-SHORT
 BAD-LENGTH
 UNKNOWN-KIND
@@ -411,6 +461,22 @@ refuses "a last record that is too long" "line 16384: $full"
 refuses "a record out of range where there is no room" "line 16385: $first"
 { expiries 16384 && echo "no words"; } >"$room/text"
 refuses "words that are not known where there is no room" "line 16385: $unknown"
+# the same with records in slots, of 10 bytes: 6 bytes are left, which a plain record of as many words fills
+in_slots() {
+    awk -v n="$1" 'BEGIN { for (i = 0; i < n; i++) print "SLOT 513 EXPIRY" }'
+}
+bytes 08 00 07 00 01 02 02 00 05 00 >"$room/wanted"
+while [ "$(wc -c <"$room/wanted")" -lt 65530 ]; do
+    cat "$room/wanted" "$room/wanted" >"$room/twice"
+    head -c 65530 "$room/twice" >"$room/wanted"
+done
+bytes 04 00 04 00 04 00 >>"$room/wanted"
+{ in_slots 6553 && echo "ACCESS CLEAR 0"; } >"$room/text"
+gives "6,553 expiries in slots and a record of 6 bytes"
+in_slots 6554 >"$room/text"
+refuses "a record in a slot that is too long, where a plain one is not" "line 6554: $full"
+{ in_slots 6553 && echo "SLOT 5 TIME 86401"; } >"$room/text"
+refuses "a record in a slot out of range where there is no room" "line 6554: $first"
 
 # the longest text, and a longer one
 : >"$room/wanted"

@@ -2,8 +2,8 @@
 # records.sh [--count N] [--seed S]: generated event files (200 of seed 1 where it is not said), damaged ones among them, dumped by ./dump
 # and recorded by ./record. A file all of whose records are read, with each field in its range, comes back byte for byte. Of any other the
 # first record that is not so is told, by its line, with the field that is out of its range, and the records before it come back. Which
-# record and field that is, host/reference says: a listing has 17 and 18 before 3, and no field. A file that is too long is left out. Needs
-# cargo.
+# record and field that is, host/reference says: a listing has 17, 19 and 20 before 3, and no field. A file that is too long is left out.
+# Needs cargo.
 set -eu
 cd "$(dirname "$0")/.."
 who=records.sh count=200 seed=1

@@ -1,6 +1,7 @@
 #!/bin/sh
 # sizes.sh PROGRAM: a listing program at the edges of its sizes. Files of 65,535, 65,536 and 65,537 bytes whose listing fits, and
-# files whose listing has 65,535, 65,536 and 65,537 bytes.
+# files whose listing has 65,535, 65,536 and 65,537 bytes; both of plain records and of records in slots. And a file whose lines have slots
+# by its last record alone, so that its listing is too long, and without it is not.
 set -eu
 [ $# -eq 1 ] || { echo "usage: sizes.sh PROGRAM" >&2 && exit 2; }
 program=$1
@@ -47,6 +48,41 @@ for times in 22 23 24; do
     case $times in
     24) expect "a listing of 65,537 bytes" "$room/file" 10 "REFUSED 8" ;;
     *) expect "a listing of $length bytes" "$room/file" $length "END 2775" ;;
+    esac
+done
+# 1,771 of those messages in slot 63 (37 bytes each) and a plain one are 65,536 bytes
+for _ in 1 2 3 4 5 6 7; do
+    repeat 253 '\043\000\007\000\077\000'"$message"
+done >"$room/most"
+{ cat "$room/most"; printf '\007\000\003\000\005\000\000\000'; } >"$room/file"
+expect "a file of 65,535 bytes in slots" "$room/file" 0 "END 1772"
+printf '\000' >>"$room/file"
+expect "a file of 65,536 bytes in slots" "$room/file" 0 "END 1772"
+printf '\002' >>"$room/file"
+expect "a file of 65,537 bytes in slots" "$room/file" 10 "REFUSED 8"
+# 2,562 expiries in slots, of which so many have two digits, a byte more in the listing each
+for digits in 15 16 17; do
+    {
+        repeat $((2562 - digits)) '\010\000\007\000\011\000\002\000\005\000'
+        repeat $digits '\010\000\007\000\012\000\002\000\005\000'
+    } >"$room/file"
+    length=$((65520 + digits))
+    case $digits in
+    17) expect "a listing of 65,537 bytes with slots" "$room/file" 10 "REFUSED 8" ;;
+    *) expect "a listing of $length bytes with slots" "$room/file" $length "END 2562" ;;
+    esac
+done
+# 2,775 expiries, and a last record: plain, in a slot, and one of kind 7 that is broken, which is no reason for slots
+for last in '\002\000\005\000' '\010\000\007\000\000\000\002\000\005\000' '\010\000\007\000\000\000\002\000\011\000'; do
+    {
+        repeat 2775 '\002\000\005\000'
+        # shellcheck disable=SC2059 # a format of escapes alone
+        printf "$last"
+    } >"$room/file"
+    case $last in
+    '\002'*) expect "a listing of 65,532 bytes without slots" "$room/file" 65532 "END 2776" ;;
+    *'\011\000') expect "the same with a last record that is broken" "$room/file" 65531 "END 2776" ;;
+    *) expect "the same with slots by the last record alone" "$room/file" 10 "REFUSED 8" ;;
     esac
 done
 exit $fail

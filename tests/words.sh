@@ -44,9 +44,10 @@ written 'ascii' "$room/specs" >"$room/written"
 awk '/^What a message carries/ { inside = 1 } /^$/ { inside = 0 } inside' $format | grep -oE '`[A-Z+-]+[^`]*`' | tr -d '`' |
     sed 's/ [a-z]*$//' | sort -u >"$room/has"
 differ "word of a message"
-# the numbers given back: those of a call, of the frames, of a text that does not fit
+# the numbers given back: those of a call, of a board, of the frames, of a text that does not fit
 {
-    awk '/Numbers given back/ { inside = 1; next } /^--/ { inside = 0 } inside && / = [0-9]+$/ { print $3 }' crates/rows/specs/Numbers.antt
+    awk '/Numbers given back/ { inside = 1; next } /^--/ { inside = 0 } inside && / = [0-9]+$/ { print $3 }' \
+        crates/rows/specs/Numbers.antt crates/board/specs/Numbers.antt
     awk '/^(cutShort|badLength|unknownKind|tooLong) = / { print $3 }' $specs/Frames.antt $specs/Fit.antt
 } | sort -u >"$room/written"
 column Number >"$room/has" && differ "number given back"

@@ -3,8 +3,9 @@
  * a phase and a REV state and is reached by a few records from an opening; the listing of all of them gives the number of the last.
  *
  * Each place is reached in two ways and each event is tried with two settings of its fields, and all four get the same: a row, or the same
- * number. So do an event before the opening (17) and an opening at each place (18), also with a bad field. The status is 1 where that is
- * not so, or a place is not reached.
+ * number. So do an event before the opening (17) and an opening at each place (20, and a row where the call has cleared), also with a bad
+ * field. All of it is tried by plain records and in a slot, and gets the same. The status is 1 where that is not so, or a place is not
+ * reached.
  */
 #include "rev.h"
 
@@ -17,7 +18,18 @@ enum message { IAM = 1, ANM, CON, REL, FAC };
 enum component { NONE, INVOKE, RESULT, ERROR, REJECT };
 enum operation { SETUP = 1, ACTIVE, CALLED };
 enum access { ACCEPT = 1, GIVE_ERROR, GIVE_REJECT, CLEAR, ANSWER };
-enum number { ROW = 0, NEVER = 1, TOO_MUCH = 2, PART_ABSENT = 4, NOBODY_PAYS = 10, WRONG_PHASE = 15, WRONG_STATE, EARLY, TWICE };
+enum number {
+    ROW = 0,
+    NEVER = 1,
+    TOO_MUCH = 2,
+    OUT_OF_RANGE = 3,
+    PART_ABSENT = 4,
+    NOBODY_PAYS = 10,
+    WRONG_PHASE = 15,
+    WRONG_STATE,
+    EARLY,
+    IN_USE = 20
+};
 
 /* What of an event decides whether there is a row; and its name in the table. */
 struct event {
@@ -51,7 +63,7 @@ static const struct event events[] = {
     {"time", TIME, 0, 0, 0},
 };
 
-enum { EVENTS = sizeof events / sizeof events[0], STEPS = 4, RECORDS = STEPS + 2, WORD = 32, LIST = 128 };
+enum { EVENTS = sizeof events / sizeof events[0], STEPS = 4, RECORDS = STEPS + 2, WORD = 32, LIST = 128, SLOT = 63 };
 
 /* The records from an opening to a place, by the names of their events. */
 struct way {
@@ -207,8 +219,25 @@ static const char *read_word(const char *at, char *word)
     return at[length] == ' ' ? at + length + 1 : at + length;
 }
 
-/* The line of the file's last record in its listing. */
-static struct line last_line(const struct file *file)
+/* The file with each of its records in a slot. By hand: the writer of such records refuses one with a bad field. */
+static struct file in_slot(const struct file *plain)
+{
+    struct file file = {.records = plain->records};
+
+    for (size_t from = 0, size; from < plain->length; from += size) {
+        uint8_t head[] = {0, 0, 7, 0, SLOT, 0};
+
+        size = rev_record_length(plain->bytes + from);
+        head[0] = (uint8_t)(size + 4);
+        memcpy(file.bytes + file.length, head, sizeof head);
+        memcpy(file.bytes + file.length + sizeof head, plain->bytes + from, size);
+        file.length += sizeof head + size;
+    }
+    return file;
+}
+
+/* The line of the file's last record in its listing, which has slots or none. */
+static struct line read_last_line(const struct file *file, bool slots)
 {
     static char listing[4096];
     size_t length = rev_listing(file->bytes, file->length, (uint8_t *)listing, sizeof listing - 1);
@@ -224,13 +253,33 @@ static struct line last_line(const struct file *file)
         at += *at == '\n';
         if (strncmp(at, ordinal, strlen(ordinal)) != 0 || at[strlen(ordinal)] != ' ')
             continue;
-        at = read_word(read_word(at, word), word);
+        at = read_word(at, word);
+        if (slots) {
+            at = read_word(at, word);
+            if (strtoul(word, NULL, 10) != SLOT)
+                stop("a line lacks its slot");
+        }
+        at = read_word(at, word);
         line.number = (unsigned)strtoul(word, NULL, 10);
         read_word(read_word(at, line.phase), line.state);
         return line;
     }
     stop("a listing lacks its last record");
     abort();
+}
+
+/* The same by plain records and in a slot: "its answer depends on that slot's call and the event alone" (02 #107). */
+static struct line last_line(const struct file *file)
+{
+    struct file other = in_slot(file);
+    struct line line = read_last_line(file, false), there = read_last_line(&other, true);
+
+    if (line.number != there.number || strcmp(line.phase, there.phase) != 0 || strcmp(line.state, there.state) != 0) {
+        printf("classes: in a slot %u, %s %s, and else %u, %s %s\n", there.number, there.phase, there.state, line.number, line.phase,
+               line.state);
+        exit(1);
+    }
+    return line;
 }
 
 static bool is_at(const struct line *line, const struct place *place)
@@ -334,10 +383,13 @@ static void print_cell(uint8_t role, const char *phase, const struct event *even
     printf(" |");
 }
 
-/* 17 for each event before the opening, and 18 for an opening at each place, whatever their fields are. */
+/*
+ * 17 for each event before the opening, and 20 for an opening at each place where the call has not cleared, whatever their fields are. Where
+ * it has cleared, an opening has a row, and the call begins anew; a bad field of it is 3.
+ */
 static void check_openings(void)
 {
-    static const struct place before_opening = {.phase = "NONE", .state = "IDLE"};
+    static const struct place before_opening = {.phase = "NONE", .state = "IDLE"}, anew = {.phase = "NULL", .state = "IDLE"};
     static const struct file nothing = {.length = 0};
 
     for (size_t i = 0; i < EVENTS; i++)
@@ -348,7 +400,8 @@ static void check_openings(void)
             }
     for (size_t i = 0; i < ROLES * PLACES * 2 * 2; i++) {
         uint8_t role = i % ROLES, bad = i / ROLES % 2;
-        const struct place *place = &roles[role].places[i / ROLES / 4];
+        const struct place *place = &roles[role].places[i / ROLES / 4], *after = place;
+        unsigned wanted = IN_USE;
         struct file file;
         struct line line;
 
@@ -357,8 +410,13 @@ static void check_openings(void)
         file = reach(role, place, &place->ways[i / ROLES / 2 % 2]);
         open_call(&file, role, 8, bad ? BAD : BARE);
         line = last_line(&file);
-        if (line.number != TWICE || !is_at(&line, place)) {
-            printf("classes: %s, %s %s, an opening: not %u\n", roles[role].name, place->phase, place->state, TWICE);
+        if (strcmp(place->phase, "CLEARED") == 0) {
+            wanted = bad ? OUT_OF_RANGE : ROW;
+            after = bad ? place : &anew;
+        }
+        if (line.number != wanted || !is_at(&line, after)) {
+            printf("classes: %s, %s %s, an opening: not %u, or not %s %s\n", roles[role].name, place->phase, place->state, wanted, after->phase,
+                   after->state);
             exit(1);
         }
     }

@@ -46,8 +46,14 @@ extern "C" {
 #define REV_NUMBER(given) ((given) & 0xFFu)
 #define REV_REST(given) ((given) >> 8)
 
-/* The most bytes that a record has, its two length bytes among them. In so much room no writer gives REV_TOO_LONG. */
-#define REV_RECORD 31u
+/*
+ * The most bytes that a record has, its two length bytes among them: one of kind 7, which has six more than the plain record inside. In so
+ * much room no writer gives REV_TOO_LONG.
+ */
+#define REV_RECORD 37u
+
+/* How many calls the listing's row has: slots 0 to 63. A record of kind 7 that names another is listed with 19. */
+#define REV_SLOTS 64u
 
 /*
  * Room for the entries of any parameter: it has 254 bytes of components at most, the shortest component has 7 and an entry of 11, and no
@@ -142,6 +148,27 @@ uint32_t rev_write_message(uint8_t message, uint8_t cause, uint8_t component, ui
 uint32_t rev_write_access(uint8_t told, uint8_t error, uint8_t *out, size_t out_len) REV_NOT_NULL;
 uint32_t rev_write_expiry(uint8_t *out, size_t out_len) REV_NOT_NULL;
 uint32_t rev_write_time(uint32_t seconds, uint8_t *out, size_t out_len) REV_NOT_NULL;
+
+/*
+ * Puts a record in a slot: writes, at the start of the out_len bytes at `out`, the record of kind 7 that names `slot` and has inside the
+ * plain record at the start of the record_len bytes at `record`, as one of the writers above has written it. What follows that record is
+ * not looked at. So a board of many calls writes each event twice: first plain, into a buffer of its own, then around it.
+ *
+ *   5, 6, 7          no whole record of kind 1 to 6 stands at `record`, for the reasons of an event file (docs/FORMAT.md) of plain records
+ *                    alone: 5 also where there are no bytes, 6 for every length above 29, 7 for a record that is of kind 7 itself
+ *   REV_BAD_FIELD    a field of that record is out of its range; the rest is its ordinal in that record, as above
+ *   REV_TOO_LONG     the record of kind 7 has more than out_len bytes: six more than the plain one
+ *   REV_WRITTEN      it stands at `out`, and bytes past it are as they were; rev_record_length tells how long it is
+ *
+ * On every number but REV_WRITTEN all bytes of `out` are as they were. A slot is any of 0 to 65535: which of them a row has is not judged
+ * here (REV_SLOTS). C passes a number that is too large for it without its high bits: 65536 arrives as 0.
+ *
+ * What it asks is what rev_listing asks: no pointer is null, even at length 0; the bytes are there; the two do not overlap. It too keeps
+ * nothing between calls, allocates nothing and calls nothing.
+ *
+ * The promise is proved of crates/files/src/write.rt. That this declaration fits it is tested (test.c) and not proved.
+ */
+uint32_t rev_write_slot(uint16_t slot, const uint8_t *record, size_t record_len, uint8_t *out, size_t out_len) REV_NOT_NULL;
 
 /*
  * Whether two telephone numbers are the same: exactly where both are international or neither is, and their counts are equal, and their

@@ -8,6 +8,10 @@
  * field gives 3 and the ordinal of the first in every room and changes nothing; else a room too small gives 8 and changes nothing, and
  * another has the record. Of a number that was written, dump and listing show the nature.
  *
+ * And of the writer that puts a record in a slot, with the same guards and rooms and a record that cannot be written, which ends where
+ * memory that cannot be read begins: 5, 6 or 7, then 3 with its field, in every room, and nothing is changed; else as the others. What was
+ * written, dump and listing show with its slot.
+ *
  * And of numbers, all pairs of some: they are the same where nature, count and value are, and nowhere else.
  *
  * And of parameters, read and written, with the same guards and rooms: a refusal gives its number and place in every room and changes
@@ -23,7 +27,7 @@
 #include <sys/mman.h>
 
 /* PAGES is a multiple of the size of a page, and more than a file has */
-enum { ROOM = 4 << 20, GUARD = 64, PAST = 16, PAGES = 2 << 16, MOST_ROOM = 40 };
+enum { ROOM = 4 << 20, GUARD = 64, PAST = 16, PAGES = 2 << 16, MOST_ROOM = 46 };
 
 typedef size_t view(const uint8_t *file, size_t file_len, uint8_t *out, size_t out_len);
 
@@ -322,6 +326,149 @@ static int numbers_read_back(void)
     return 1;
 }
 
+/* ---- Slots ---- */
+
+/* A record that is lent with a slot, and what is wanted: the record of kind 7, or what is given where none is written. */
+struct in_slot {
+    uint16_t slot;
+    size_t lent_len;
+    uint8_t lent[REV_RECORD + 4];
+    uint32_t refusal;
+    uint8_t record[REV_RECORD];
+};
+
+#define LONGEST_RECORD 29, 0, 3, 0, 5, 0, 2, 3, 127, HOME_BYTES, MOST_ABROAD_BYTES, 40, 0, 0, 0
+#define TIME_60 6, 0, 6, 0, 60, 0, 0, 0
+
+static const struct in_slot in_slots[] = {
+    {0, 4, {2, 0, 5, 0}, 0, {8, 0, 7, 0, 0, 0, 2, 0, 5, 0}},
+    {5, 8, {TIME_60}, 0, {12, 0, 7, 0, 5, 0, TIME_60}},
+    {63, 31, {LONGEST_RECORD}, 0, {35, 0, 7, 0, 63, 0, LONGEST_RECORD}},
+    {64, 8, {TIME_60}, 0, {12, 0, 7, 0, 64, 0, TIME_60}}, /* no slot of the listing's row, and one all the same */
+    {256, 8, {TIME_60}, 0, {12, 0, 7, 0, 0, 1, TIME_60}},
+    {65535, 8, {TIME_60}, 0, {12, 0, 7, 0, 255, 255, TIME_60}},
+    {5, 9, {TIME_60, 2}, 0, {12, 0, 7, 0, 5, 0, TIME_60}}, /* what follows is not looked at */
+    {5, 12, {TIME_60, 2, 0, 5, 0}, 0, {12, 0, 7, 0, 5, 0, TIME_60}},
+    {5, 0, {0}, 5, {0}},
+    {5, 1, {2}, 5, {0}},
+    {5, 2, {2, 0}, 5, {0}},
+    {5, 3, {2, 0, 5}, 5, {0}},
+    {5, 7, {TIME_60}, 5, {0}},
+    {5, 30, {LONGEST_RECORD}, 5, {0}},
+    {5, 4, {0, 0, 5, 0}, 6, {0}},
+    {5, 4, {1, 0, 5, 0}, 6, {0}},
+    {5, 2, {30, 0}, 6, {0}}, /* no plain record is so long, and one of kind 7 does not belong inside */
+    {5, 4, {30, 0, 7, 0}, 6, {0}},
+    {5, 37, {35, 0, 7, 0, 63, 0, LONGEST_RECORD}, 6, {0}},
+    {5, 4, {2, 1, 5, 0}, 6, {0}},
+    {5, 5, {3, 0, 5, 0, 0}, 6, {0}},
+    {5, 9, {7, 0, 3, 0, 5, 0, 0, 0, 16}, 6, {0}},
+    {5, 8, {6, 0, 3, 0, 5, 0, 0, 0}, 6, {0}},
+    {5, 4, {2, 0, 0, 0}, 7, {0}},
+    {5, 4, {2, 0, 7, 0}, 7, {0}},
+    {5, 10, {8, 0, 7, 0, 0, 0, 2, 0, 5, 0}, 7, {0}},
+    {5, 4, {2, 0, 5, 1}, 7, {0}},
+    {5, 5, {3, 0, 9, 0, 0}, 7, {0}}, /* before the length */
+    {5, 8, {6, 0, 6, 0, 0x81, 0x51, 1, 0}, REV_BAD_FIELD + 256 * 1, {0}},
+    {65535, 8, {6, 0, 6, 0, 0x81, 0x51, 1, 0}, REV_BAD_FIELD + 256 * 1, {0}},
+    {5, 6, {4, 0, 4, 0, 4, 1}, REV_BAD_FIELD + 256 * 2, {0}},
+    {5, 15, {13, 0, 1, 0, 0, 32, 0}, REV_BAD_FIELD + 256 * 2, {0}},
+    {5, 15, {13, 0, 1, 0, 1, 8, 0}, REV_BAD_FIELD + 256 * 3, {0}},
+    {5, 14, {12, 0, 2, 0, 2, HOME_BYTES}, REV_BAD_FIELD + 256 * 2, {0}},
+    {5, 9, {7, 0, 3, 0, 6, 128, 5, 9, 132}, REV_BAD_FIELD + 256 * 1, {0}},
+    {5, 9, {7, 0, 3, 0, 5, 0, 4, 1, 132}, REV_BAD_FIELD + 256 * 4, {0}},
+    {5, 18, {16, 0, 3, 0, 5, 0, 0, 0, 32, 16}, REV_BAD_FIELD + 256 * 6, {0}},
+    {5, 27, {25, 0, 3, 0, 5, 0, 0, 0, 48, HOME_BYTES, 16}, REV_BAD_FIELD + 256 * 7, {0}},
+};
+
+enum { IN_SLOTS = sizeof in_slots / sizeof in_slots[0] };
+
+static const uint8_t *lend(uint8_t *pages, const uint8_t *bytes, size_t length);
+
+/* A record put in a slot, in a room: the number, the record or nothing of it, and what lies past it and outside; twice alike. */
+static int puts_in_slot(const struct in_slot *s, const uint8_t *lent, size_t room)
+{
+    size_t length = s->refusal == 0 ? rev_record_length(s->record) : 0, end = GUARD + room + GUARD;
+    uint32_t want = s->refusal != 0 ? s->refusal : length <= room ? REV_WRITTEN : REV_TOO_LONG;
+    size_t written = want == REV_WRITTEN ? length : 0;
+
+    buffers++;
+    for (size_t i = 0; i < end; i++)
+        guarded[i] = filler(i);
+    for (int twice = 0; twice < 2; twice++)
+        if (rev_write_slot(s->slot, lent, s->lent_len, guarded + GUARD, room) != want || memcmp(guarded + GUARD, s->record, written) != 0 ||
+            !stays(0, GUARD) || !stays(GUARD + written, end))
+            return 0;
+    return 1;
+}
+
+/* Those, and each record of an event in range. */
+static int slots_keep(uint8_t *pages)
+{
+    for (size_t i = 0; i < IN_SLOTS + EVENTS; i++) {
+        struct in_slot s = i < IN_SLOTS ? in_slots[i] : (struct in_slot){.slot = 0x0102};
+        const uint8_t *lent;
+
+        if (i >= IN_SLOTS) {
+            const struct event *e = &events[i - IN_SLOTS];
+
+            if (e->bad != 0)
+                continue;
+            s.lent_len = rev_record_length(e->record);
+            memcpy(s.lent, e->record, s.lent_len);
+            memcpy(s.record, (uint8_t[]){(uint8_t)(s.lent_len + 4), 0, 7, 0, 2, 1}, 6);
+            memcpy(s.record + 6, e->record, s.lent_len);
+        }
+        lent = lend(pages, s.lent, s.lent_len);
+        for (size_t room = 0; room <= MOST_ROOM; room++)
+            if (!puts_in_slot(&s, lent, room)) {
+                printf("record %zu in slot %u: what is written into %zu bytes is not as promised\n", i, s.slot, room);
+                return 0;
+            }
+    }
+    return 1;
+}
+
+/* A record in a slot, at the end of a file that has room for it; gives the length of the file with it, or 0. */
+static size_t add_in_slot(uint8_t *file, size_t length, uint16_t slot, const uint8_t *record)
+{
+    if (rev_write_slot(slot, record, rev_record_length(record), file + length, REV_RECORD) != REV_WRITTEN)
+        return 0;
+    return length + rev_record_length(file + length);
+}
+
+/*
+ * Calls at two slots and a plain record, which is slot 0's: an opening that is told 20 where one is open, one that begins anew where it has
+ * cleared, and the first slot that is not there. Dump and listing show them with their slots.
+ */
+static int slots_read_back(void)
+{
+    static const uint8_t originating[] = {13, 0, 1, 0, 0, 8, HOME_BYTES}, destination[] = {13, 0, 1, 0, 1, 8, ABROAD_BYTES},
+                         basic[] = {12, 0, 2, 0, 0, HOME_BYTES}, clear[] = {4, 0, 4, 0, 4, 0}, expiry[] = {2, 0, 5, 0};
+    static const struct {
+        uint16_t slot;
+        const uint8_t *record;
+    } steps[] = {{63, originating}, {63, basic}, {63, destination}, {63, clear}, {63, destination}, {REV_SLOTS, originating}, {0, expiry}};
+    static const char dump[] = "RECORDS 8\n1 0 OPENING originating interaction 5550100\n2 15 SLOT 63 OPENING originating interaction 5550100\n"
+                               "3 36 SLOT 63 REQUEST BASIC 5550100\n4 56 SLOT 63 OPENING destination interaction +5550100\n"
+                               "5 77 SLOT 63 ACCESS CLEAR 0\n6 89 SLOT 63 OPENING destination interaction +5550100\n"
+                               "7 110 SLOT 64 OPENING originating interaction 5550100\n8 131 SLOT 0 EXPIRY\n";
+    static const char listing[] = "REV 1\n1 0 0 NULL IDLE 0 0 0\n2 63 0 NULL IDLE 0 0 0\n3 63 0 SETUP IDLE 0 0 0\n> IAM\n"
+                                  "4 63 20 SETUP IDLE 0 0 0\n5 63 0 CLEARED IDLE 0 0 0\n> REL 16\n6 63 0 NULL IDLE 0 0 0\n"
+                                  "7 64 19 NONE IDLE 0 0 0\n8 0 15 NULL IDLE 0 0 0\nEND 8\n";
+    uint8_t file[8 * REV_RECORD];
+    size_t length = sizeof originating;
+
+    memcpy(file, originating, length);
+    for (size_t i = 0; i < sizeof steps / sizeof steps[0] && length > 0; i++)
+        length = add_in_slot(file, length, steps[i].slot, steps[i].record);
+    if (length == 0 || !is_text(rev_dump, file, length, dump) || !is_text(rev_listing, file, length, listing)) {
+        printf("records in slots are not read back\n");
+        return 0;
+    }
+    return 1;
+}
+
 /* ---- The same number ---- */
 
 static size_t pairs;
@@ -464,8 +611,6 @@ static int carries(carry *function, const struct carried *c, const uint8_t *give
     return 1;
 }
 
-static const uint8_t *lend(uint8_t *pages, const uint8_t *bytes, size_t length);
-
 static int parameters_keep(uint8_t *pages)
 {
     size_t count = sizeof read_parameters / sizeof read_parameters[0], more = sizeof written_parameters / sizeof written_parameters[0];
@@ -537,7 +682,8 @@ int main(int argc, char **argv)
     if (!kept("a file of no bytes", lend(pages, bytes, 0), 0) ||
         !kept("a file too long by a byte", lend(pages, bytes, sizeof bytes), sizeof bytes))
         return 1;
-    if (!writers_keep() || !numbers_read_back() || !same_numbers_are_told() || !parameters_keep(pages))
+    if (!writers_keep() || !numbers_read_back() || !slots_keep(pages) || !slots_read_back() || !same_numbers_are_told() ||
+        !parameters_keep(pages))
         return 1;
     snprintf(version, sizeof version, "REV %d\n", REV_VERSION);
     rev_listing(bytes, 0, whole, ROOM);
@@ -545,7 +691,7 @@ int main(int argc, char **argv)
         printf("the first line of a listing is not %s", version);
         return 1;
     }
-    printf("%d files and %d events, %zu buffers, %zu pairs of numbers, %zu rooms for parameters, each as promised\n", argc - 1, EVENTS,
-           buffers, pairs, parameters);
+    printf("%d files, %d events and %d records for slots, %zu buffers, %zu pairs of numbers, %zu rooms for parameters, each as promised\n",
+           argc - 1, EVENTS, IN_SLOTS, buffers, pairs, parameters);
     return 0;
 }

@@ -12,7 +12,9 @@ int main()
                    rev_record_length(out.data()) == 15 &&
                    rev_write_request(2, false, 0, 0, out.data(), out.size()) == REV_WRITTEN && rev_record_length(out.data()) == 14 &&
                    rev_write_message(5, 0, 0, 0, 112, false, 1, 0, true, 1, 0, 0, out.data(), REV_RECORD) == REV_WRITTEN &&
-                   rev_record_length(out.data()) == REV_RECORD && rev_write_access(4, 0, out.data(), 5) == REV_TOO_LONG &&
+                   rev_record_length(out.data()) == 31 &&
+                   rev_write_slot(63, out.data(), 31, out.data() + 64, REV_RECORD) == REV_WRITTEN &&
+                   rev_record_length(out.data() + 64) == REV_RECORD && rev_write_access(4, 0, out.data(), 5) == REV_TOO_LONG &&
                    rev_write_expiry(out.data(), 4) == REV_WRITTEN && rev_write_time(86401, out.data(), 0) == REV_BAD_FIELD + 256 * 1 &&
                    rev_record_length(out.data()) == 4;
     bool same = rev_same_number(true, 7, 5550123, true, 7, 5550123) && !rev_same_number(true, 7, 5550123, false, 7, 5550123);

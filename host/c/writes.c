@@ -2,10 +2,10 @@
  * Writes many events in one process, for a comparison with another writer.
  *
  * Each event comes on standard input as its kind, a byte; its fields, in the order of the writer's parameters, a bool as a byte; and a
- * 4-byte length and the bytes that the lent buffer has before the call. To standard output go the 4 bytes that the writer gave; the
- * buffer's bytes after the call; and a 4-byte length and the dump of the record, empty where none was written. They are flushed before
- * more is read. All numbers are little-endian. The program ends with status 0 when its input does; with 3 if a byte outside the buffer
- * was changed; else with 2.
+ * 4-byte length and the bytes that the lent buffer has before the call. A record of kind 7 has as its fields the slot, in two bytes, and a
+ * 4-byte length and the bytes of the record that is lent. To standard output go the 4 bytes that the writer gave; the buffer's bytes after
+ * the call; and a 4-byte length and the dump of the record, empty where none was written. They are flushed before more is read. All numbers
+ * are little-endian. The program ends with status 0 when its input does; with 3 if a byte outside the buffer was changed; else with 2.
  *
  * The writers are rev_write_opening and so on, unless -DPLAIN takes those of bench/plain.h.
  */
@@ -21,11 +21,15 @@
 #define SERVED_ROOM 256
 #include "served.h"
 
-enum { TEXT = 4096, KINDS = 6, FIELDS = 29 };
+enum { TEXT = 4096, IN_SLOT = 7, FIELDS = 29, LENT = 256 };
 
-static const size_t fields_length[1 + KINDS] = {0, 12, 11, FIELDS, 2, 0, 4};
+static const size_t fields_length[1 + IN_SLOT] = {0, 12, 11, FIELDS, 2, 0, 4, 2};
 
 static uint8_t text[TEXT];
+
+/* The record that is lent to be put in a slot, of none for the other kinds. */
+static uint8_t lent[LENT];
+static size_t lent_len;
 
 static uint64_t eight_bytes(const uint8_t *at)
 {
@@ -48,6 +52,8 @@ static uint32_t write_event(unsigned kind, const uint8_t *at, size_t room)
         return WRITE(access)(at[0], at[1], out, room);
     case 5:
         return WRITE(expiry)(out, room);
+    case IN_SLOT:
+        return WRITE(slot)((uint16_t)(at[0] | at[1] << 8), lent, lent_len, out, room);
     default:
         return WRITE(time)(four_bytes(at), out, room);
     }
@@ -70,7 +76,9 @@ int main(void)
         size_t room, dumped;
         uint32_t given;
 
-        if (kind < 1 || kind > KINDS || !get(fields, fields_length[kind]) || !get_bytes(out, SERVED_ROOM, &room))
+        if (kind < 1 || kind > IN_SLOT || !get(fields, fields_length[kind]))
+            return 2;
+        if ((kind == IN_SLOT && !get_bytes(lent, LENT, &lent_len)) || !get_bytes(out, SERVED_ROOM, &room))
             return 2;
         fill(0, GUARD);
         fill(GUARD + room, sizeof guarded);

@@ -1,12 +1,16 @@
 //! Counts how often each row and each number was reached, each place and event without a row, each form of a telephone
-//! number, and each way in which the total and the sum of the meters stand to the limit and to each other.
+//! number, each way in which the total and the sum of the meters stand to the limit and to each other, and what a board adds
+//! (`boards`).
+
+mod boards;
 
 use crate::listing::{rev_name, Listing, Reached};
-use crate::model::{self, events, states, Digits, Given, Phase, Rev, Role, Row, YEAR};
+use crate::model::{self, events, states, Digits, Framed, Given, Phase, Rev, Role, Row, YEAR};
 use crate::table::{self, event_name, phase_name, role_name, ROLES};
 use crate::write::{part, Event, Nature, Number};
+use boards::Boards;
 use std::cmp::Ordering;
-use std::collections::BTreeMap;
+use std::collections::{BTreeMap, BTreeSet};
 use std::fmt::Write;
 
 const GENERAL: usize = 5;
@@ -16,7 +20,7 @@ const ROWS: usize = GENERAL + ORIGINATING + DESTINATION;
 
 /// The numbers that a history's listing can give. Number 9 judges calls that a host made up, and 10 needs an
 /// originating call in ANSWERED whose payer is nobody, which no history reaches.
-const NUMBERS: [usize; 13] = [0, 1, 2, 3, 4, 5, 6, 7, 8, 15, 16, 17, 18];
+const NUMBERS: [usize; 14] = [0, 1, 2, 3, 4, 5, 6, 7, 8, 15, 16, 17, 19, 20];
 
 /// The rows that need a part (4), and the rows that add or take seconds (2).
 const NEEDING: [Row; 8] =
@@ -125,11 +129,16 @@ fn no_row_name(given: Given, at: Option<(Role, Phase, Rev)>, event: &str) -> Str
     format!("{} {place}, {event}", given as u8)
 }
 
-/// The kinds of records, for those whose fields are out of range.
+/// The kinds of plain records, for those whose fields are out of range.
 const KINDS: [&str; 6] = ["opening", "request", "message", "access", "expiry", "time"];
 
-/// All that has no row: each event in each place of each role, openings among them; and 17 and 18 with a bad field, of which an expiry
-/// has none.
+/// The kind of a plain record, or of the one inside.
+fn kind_name(framed: &Framed) -> &'static str {
+    KINDS[usize::from(framed.record.bytes()[2]) - 1]
+}
+
+/// All that has no row: each event in each place of each role, openings among them but where the call has cleared; and 17 and 20 with a
+/// bad field, of which an expiry has none.
 fn without_rows() -> Vec<String> {
     let mut names = Vec::new();
     for role in ROLES {
@@ -139,7 +148,9 @@ fn without_rows() -> Vec<String> {
                 let number = table::number(role, phase, rev, &event);
                 names.extend(number.map(|given| no_row_name(given, at, &event_name(&event))));
             }
-            names.extend(["opening", "bad opening"].map(|event| no_row_name(Given::SecondOpening, at, event)));
+            if phase != Phase::Cleared {
+                names.extend(["opening", "bad opening"].map(|event| no_row_name(Given::InUse, at, event)));
+            }
         }
     }
     names.extend(table::events().iter().map(|event| no_row_name(Given::BeforeOpening, None, &event_name(event))));
@@ -149,13 +160,12 @@ fn without_rows() -> Vec<String> {
 }
 
 /// The records of a file, as far as their framing is right.
-fn records(file: &[u8]) -> Vec<&[u8]> {
+fn records(file: &[u8]) -> Vec<Framed<'_>> {
     let mut records = Vec::new();
     let mut rest = file;
-    while let Some(record) = Some(rest).filter(|rest| !rest.is_empty()).and_then(|rest| events::frame(rest).ok()) {
-        let (bytes, after) = rest.split_at(record.size());
-        records.push(bytes);
-        rest = after;
+    while let Some(framed) = Some(rest).filter(|rest| !rest.is_empty()).and_then(|rest| events::frame(rest).ok()) {
+        records.push(framed);
+        rest = &rest[framed.size()..];
     }
     records
 }
@@ -165,13 +175,14 @@ pub struct Coverage {
     absent: [u64; ROWS],
     too_much: [u64; ROWS],
     after_second_press: [u64; ROWS],
-    numbers: [u64; 19],
+    numbers: [u64; 21],
     without_rows: BTreeMap<String, u64>,
     totals: [u64; TOTALS.len()],
     /// by what the number is, and by its form
     forms: BTreeMap<(&'static str, &'static str), u64>,
     /// by the place of the row, by the part, and by whether it is international; what a row sends is sent with both natures
     sent: BTreeMap<(usize, &'static str), [u64; 2]>,
+    boards: Boards,
     files: u64,
 }
 
@@ -200,11 +211,12 @@ impl Coverage {
             absent: [0; ROWS],
             too_much: [0; ROWS],
             after_second_press: [0; ROWS],
-            numbers: [0; 19],
+            numbers: [0; 21],
             without_rows: without_rows().into_iter().map(|name| (name, 0)).collect(),
             totals: [0; TOTALS.len()],
             forms: FIELDS.iter().flat_map(|field| FORMS.map(|form| ((*field, form), 0))).collect(),
             sent: BTreeMap::new(),
+            boards: Boards::new(),
             files: 0,
         }
     }
@@ -214,11 +226,13 @@ impl Coverage {
         self.files += 1;
         let Some(listing) = listing else {
             self.numbers[8] += 1;
+            self.boards.count_refused(file);
             return;
         };
         self.count_forms(file);
         self.count_without_rows(file, listing);
-        let mut pressed = false;
+        self.boards.count(file, listing);
+        let mut pressed = BTreeSet::new();
         for reached in &listing.reached {
             let given = reached.given;
             self.numbers[given as usize] += 1;
@@ -230,11 +244,12 @@ impl Coverage {
             match given {
                 Given::Applied => {
                     self.applied[place(row)] += 1;
-                    if pressed && ENDING.contains(&row) {
+                    if ENDING.contains(&row) && pressed.remove(&reached.slot) {
                         self.after_second_press[place(row)] += 1;
-                        pressed = false;
                     }
-                    pressed |= matches!(row, Row::D(57..=60));
+                    if matches!(row, Row::D(57..=60)) {
+                        pressed.insert(reached.slot);
+                    }
                 }
                 Given::PartAbsent => self.absent[place(row)] += 1,
                 Given::TooMuch => self.too_much[place(row)] += 1,
@@ -245,22 +260,22 @@ impl Coverage {
 
     /// The telephone numbers of the records, read or refused.
     fn count_forms(&mut self, file: &[u8]) {
-        for record in records(file) {
-            for (field, number) in numbers(&Event::of_record(record)) {
+        for framed in records(file) {
+            for (field, number) in numbers(&Event::of_record(framed.record.bytes())) {
                 *self.forms.entry((field, form(number))).or_default() += 1;
             }
         }
     }
 
     fn count_without_rows(&mut self, file: &[u8], listing: &Listing) {
-        for (record, reached) in records(file).into_iter().zip(&listing.reached) {
+        for (framed, reached) in records(file).into_iter().zip(&listing.reached) {
             let Reached { given, call, event, .. } = reached;
             if !Given::NO_ROW.contains(given) {
                 continue;
             }
             let name = match event {
                 Some(event) => event_name(event),
-                None => format!("bad {}", KINDS[usize::from(record[2]) - 1]),
+                None => format!("bad {}", kind_name(&framed)),
             };
             // What a state remembers is no part of a place.
             let at = states(call.role)
@@ -298,6 +313,7 @@ impl Coverage {
         let mut all: Vec<(String, u64)> = rows.chain(numbers).chain(absent).chain(too_much).collect();
         all.extend(totals.chain(ended).chain(forms).chain(sent));
         all.extend(self.without_rows.iter().map(|(name, &count)| (name.clone(), count)));
+        all.extend(self.boards.all());
         all
     }
 
@@ -309,8 +325,9 @@ impl Coverage {
     pub fn report(&self) -> String {
         let all = self.all();
         let (rows, others) = all.split_at(ROWS);
+        let (others, boards) = others.split_at(others.len() - self.boards.all().len());
         let (others, without_rows) = others.split_at(others.len() - self.without_rows.len());
-        let mut text = format!("coverage of {} files\n", self.files);
+        let mut text = format!("coverage of {} files, {} of them listed with slots\n", self.files, self.boards.files());
         for row in rows.chunks(8) {
             let cells: Vec<String> = row.iter().map(|(name, count)| format!("{name:>3} {count:<9}")).collect();
             let _ = writeln!(text, "{}", cells.join(" ").trim_end());
@@ -318,8 +335,14 @@ impl Coverage {
         for (name, count) in others {
             let _ = writeln!(text, "{name}: {count}");
         }
+        for (name, count) in boards {
+            let _ = writeln!(text, "{name}: {count}");
+        }
         let _ = writeln!(text, "events without a row, by number, role and place: {}", without_rows.len());
-        for (what, part) in [("row", rows), ("other", others), ("event without a row", without_rows)] {
+        let _ = writeln!(text, "classes of a board: {}", boards.len());
+        for (what, part) in
+            [("row", rows), ("other", others), ("event without a row", without_rows), ("class of a board", boards)]
+        {
             let least = part.iter().min_by_key(|(_, count)| count);
             let (name, count) = least.expect("no part is empty");
             let _ = writeln!(text, "least reached {what}: {name}, {count} times");
@@ -347,11 +370,11 @@ mod tests {
         assert_eq!(place(Row::D(60)), ROWS - 1);
     }
 
-    /// A few thousand files reach everything that histories can reach.
+    /// Some thousand files reach everything that histories can reach.
     #[test]
     fn everything_is_reached() {
         let mut coverage = Coverage::new();
-        for ordinal in 0..4000 {
+        for ordinal in 0..10_000 {
             let file = generate::file(7, ordinal);
             coverage.count(&file, listing::listing(&file, listing::ROOM).as_ref());
         }

@@ -43,7 +43,8 @@ pub fn compare(count: u64, seed: u64, keep: &str, command: &[String]) -> Result<
     server.end()?;
     end_progress();
     print!("{}", coverage.report());
-    println!("{count} files, 0 differences");
+    let of_boards = (0..count).filter(|&ordinal| generate::is_of_a_board(ordinal)).count();
+    println!("{count} files, {of_boards} of them of a board, 0 differences");
     Ok(true)
 }
 

@@ -1,6 +1,8 @@
 //! Event files from a seed. Most are histories that are steered by the model: the next record is mostly one that
-//! matters in the state the call is in. The rest are damaged, long, empty or noise.
+//! matters in the state the call is in. The rest are damaged, long, empty or noise. Every other file is one of a board, with
+//! records of kind 7 (`boards`).
 
+mod boards;
 mod elements;
 mod fields;
 pub mod lent;
@@ -17,7 +19,20 @@ use random::Random;
 /// The file of a seed and an ordinal. Each can be made again without those before it.
 pub fn file(seed: u64, ordinal: u64) -> Vec<u8> {
     let mut random = Random::new(seed, ordinal);
-    let random = &mut random;
+    if is_of_a_board(ordinal) {
+        boards::file(&mut random)
+    } else {
+        plain_file(&mut random)
+    }
+}
+
+/// Whether the file of an ordinal is made for a board: every second one is.
+pub fn is_of_a_board(ordinal: u64) -> bool {
+    ordinal % 2 == 1
+}
+
+/// A file of plain records.
+fn plain_file(random: &mut Random) -> Vec<u8> {
     match random.below(1000) {
         0..=2 => Vec::new(),
         3..=12 => noise(random),
@@ -50,7 +65,7 @@ impl<'r> Writer<'r> {
     }
 
     fn push(&mut self, record: Vec<u8>) {
-        if let Ok(record) = events::frame(&record) {
+        if let Ok(record) = events::plain(&record) {
             self.call = self.call.take(&record).1.call;
         }
         self.bytes.extend(record);
@@ -61,9 +76,11 @@ impl<'r> Writer<'r> {
         self.push(record);
     }
 
-    /// One record: mostly one that matters now, sometimes time, any event at all, or one with a bad field.
+    /// One record: mostly one that matters now, sometimes time, any event at all, or one with a bad field. A call that has
+    /// cleared is often opened anew.
     fn step(&mut self) {
         let record = match self.random.below(100) {
+            0..=29 if self.call.phase == Phase::Cleared => fields::opening(self.random),
             0..=74 => wanted::record(self.random, &self.call),
             75..=84 => fields::time(self.random.seconds()),
             85..=94 => fields::any(self.random),
@@ -88,7 +105,7 @@ impl<'r> Writer<'r> {
             if self.random.below(8) == 0 {
                 fields::spoil(self.random, &mut record);
             }
-            let framed = events::frame(&record).expect("right framing");
+            let framed = events::plain(&record).expect("right framing");
             if self.call.take(&framed).1.row.is_none() {
                 self.push(record);
             }
@@ -286,15 +303,18 @@ fn long(random: &mut Random) -> Vec<u8> {
 /// A file whose listing is as long as the buffer, or up to two bytes longer or shorter. A record that is refused
 /// takes one byte more in SETUP than in NULL, so the place of the request decides the length.
 fn edge_of_listing(random: &mut Random) -> Vec<u8> {
+    edge_of_listing_of(random, |_, record| record)
+}
+
+/// The same of records that are put where `put` says, by how many come after each.
+fn edge_of_listing_of(random: &mut Random, put: impl Fn(usize, Vec<u8>) -> Vec<u8>) -> Vec<u8> {
     let target = listing::ROOM - 2 + random.below(5) as usize;
     let with_request_at = |random: &mut Random, place: usize, records: usize| {
-        let mut bytes = fields::opening_of(0, 0, Number::national(1, 1));
+        let mut bytes = put(records, fields::opening_of(0, 0, Number::national(1, 1)));
         for ordinal in 0..records {
-            if ordinal == place {
-                bytes.extend(fields::ask(0, Number::national(1, 5)));
-            } else {
-                bytes.extend(fields::refused_record(random));
-            }
+            let record =
+                if ordinal == place { fields::ask(0, Number::national(1, 5)) } else { fields::refused_record(random) };
+            bytes.extend(put(records - 1 - ordinal, record));
         }
         bytes
     };
@@ -366,7 +386,8 @@ fn damage(random: &mut Random, bytes: &mut Vec<u8>) {
             // a wrong length
             5 => {
                 let old = bytes[start];
-                let length = random.pick(&[0, 1, 2, 7, 28, 29, 30, 255, old.wrapping_add(1), old.wrapping_sub(1)]);
+                let length =
+                    random.pick(&[0, 1, 2, 7, 8, 28, 29, 30, 35, 36, 255, old.wrapping_add(1), old.wrapping_sub(1)]);
                 bytes[start] = length;
             }
             6 if start + 1 < bytes.len() => bytes[start + 1] = random.pick(&[1, 255]),
@@ -384,8 +405,8 @@ fn damage(random: &mut Random, bytes: &mut Vec<u8>) {
 fn record_start(random: &mut Random, bytes: &[u8]) -> usize {
     let mut starts = vec![0];
     let mut at = 0;
-    while let Ok(record) = events::frame(&bytes[at..]) {
-        at += record.size();
+    while let Ok(framed) = events::frame(&bytes[at..]) {
+        at += framed.size();
         if at >= bytes.len() {
             break;
         }
@@ -400,10 +421,10 @@ mod tests {
 
     #[test]
     fn a_seed_gives_the_same_files() {
-        let files = |seed| (0..300).map(|ordinal| file(seed, ordinal)).collect::<Vec<_>>();
+        let files = |seed| (0..600).map(|ordinal| file(seed, ordinal)).collect::<Vec<_>>();
         assert_eq!(files(5), files(5));
         assert_ne!(files(5), files(6));
-        assert_eq!(file(5, 299), files(5)[299]);
+        assert_eq!([file(5, 298), file(5, 299)], files(5)[298..300]);
     }
 
     #[test]

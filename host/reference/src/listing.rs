@@ -1,6 +1,6 @@
 //! 01, "The listing".
 
-use crate::model::events::LONGEST_FILE;
+use crate::model::events::{self, LONGEST_FILE};
 use crate::model::{
     Action, Answer, Call, Component, Digits, Event, Given, History, Message, Name, Nature, Operation, Phase, Rev, Row,
     Shown,
@@ -13,16 +13,21 @@ pub const ROOM: usize = 65_536;
 /// What the listing program prints on 8, alone.
 pub const REFUSED: &[u8] = b"REFUSED 8\n";
 
-/// A listing, and what was reached by each record shown.
+/// A listing, whether its lines have slots, and what was reached by each record shown.
 pub struct Listing {
     pub text: Vec<u8>,
+    pub slots: bool,
     pub reached: Vec<Reached>,
 }
 
-/// Of a record its number, the row it was judged by, the numbers that were sent, and the sum of the meters and the
-/// total after it. Where 2 was given for time, these are what they would have been. Then the call after it, which where
-/// it was refused is the one that it came to, and the event, if all its fields are in range.
+/// Of a record its slot, whether it is of kind 7, the phase of the call that it came to, its number, the row it was judged
+/// by, the numbers that were sent, and the sum of the meters and the total after it. Where 2 was given for time, these are
+/// what they would have been. Then the call after it, which where it was refused is the one that it came to, and the event, if
+/// all its fields are in range.
 pub struct Reached {
+    pub slot: u16,
+    pub in_slot: bool,
+    pub from: Phase,
     pub given: Given,
     pub row: Option<Row>,
     pub calling: Option<Digits>,
@@ -41,6 +46,9 @@ impl Reached {
             _ => 0,
         };
         let mut reached = Reached {
+            slot: shown.slot,
+            in_slot: shown.in_slot,
+            from: shown.from,
             given: *given,
             row: *row,
             calling: None,
@@ -65,17 +73,31 @@ pub fn listing(file: &[u8], room: usize) -> Option<Listing> {
     if file.len() > LONGEST_FILE {
         return None;
     }
+    let slots = has_slots(file);
     let mut text = b"REV 1\n".to_vec();
     let mut reached = Vec::new();
     for shown in History::new(file) {
-        record(&mut text, &shown);
+        record(&mut text, &shown, slots);
         if text.len() > room {
             return None;
         }
         reached.push(Reached::by(&shown));
     }
     line(&mut text, format_args!("END {}", reached.len()));
-    (text.len() <= room).then_some(Listing { text, reached })
+    (text.len() <= room).then_some(Listing { text, slots, reached })
+}
+
+/// 02 #107: "Where no record of kind 7 passes the framing, lines have no slot". One that passes it, before the reading stops,
+/// puts slots on all lines, whatever number it gets.
+fn has_slots(file: &[u8]) -> bool {
+    let mut rest = file;
+    while let Some(framed) = Some(rest).filter(|rest| !rest.is_empty()).and_then(|rest| events::frame(rest).ok()) {
+        if framed.named.is_some() {
+            return true;
+        }
+        rest = &rest[framed.size()..];
+    }
+    false
 }
 
 /// "Lines end in one newline."
@@ -88,11 +110,16 @@ fn put(text: &mut Vec<u8>, words: std::fmt::Arguments) {
     text.write_fmt(words).expect("a vector takes all bytes");
 }
 
-/// "for each record its ordinal, number, phase, REV state, caller, called, far; then its actions, each after `> `"
-fn record(text: &mut Vec<u8>, shown: &Shown) {
+/// "for each record its ordinal, number, phase, REV state, caller, called, far; then its actions, each after `> `"; and 02 #107:
+/// "The listing puts the slot after the ordinal".
+fn record(text: &mut Vec<u8>, shown: &Shown, slots: bool) {
     let (given, call) = (shown.answer.given as u8, &shown.answer.call);
     let (phase, rev) = (phase_name(call.phase), rev_name(call.rev));
-    line(text, format_args!("{} {given} {phase} {rev} {} {} {}", shown.ordinal, call.caller, call.called, call.far));
+    put(text, format_args!("{} ", shown.ordinal));
+    if slots {
+        put(text, format_args!("{} ", shown.slot));
+    }
+    line(text, format_args!("{given} {phase} {rev} {} {} {}", call.caller, call.called, call.far));
     for action in &shown.answer.actions {
         text.extend(b"> ");
         put_action(text, action);
@@ -275,7 +302,7 @@ mod tests {
     /// All cases of these files: `## name`, one record a line in hex, `=`, and the listing up to an empty line.
     #[test]
     fn cases() {
-        for file in ["cases.txt", "framing.txt", "rows.txt"] {
+        for file in ["cases.txt", "framing.txt", "rows.txt", "board.txt"] {
             let path = format!("{}/../../tests/{file}", env!("CARGO_MANIFEST_DIR"));
             let cases = std::fs::read_to_string(&path).unwrap_or_else(|error| panic!("{path}: {error}"));
             let mut count = 0;

@@ -165,9 +165,10 @@ fn refused(file: &[u8]) -> Option<(usize, u8, usize)> {
         ordinal += 1;
         match model::events::frame(rest) {
             Err(given) => return Some((ordinal, given as u8, 0)),
-            Ok(record) => match record.event() {
+            // of a record of kind 7 the field is counted in the inner body
+            Ok(framed) => match framed.record.event() {
                 Err(field) => return Some((ordinal, 3, field)),
-                Ok(_) => rest = &rest[record.size()..],
+                Ok(_) => rest = &rest[framed.size()..],
             },
         }
     }

@@ -1,6 +1,6 @@
-//! The rules of document 01 for one call at one exchange, as the requests of document 02 change them, and the clause
-//! (ITU-T Q.736 clause 3, document 001) behind them. Comments cite 01 by its headings or words, 02 by its requests'
-//! numbers, and the clause by its own.
+//! The rules of document 01 for a call at one exchange, as the requests of document 02 change them, and the clause
+//! (ITU-T Q.736 clause 3, document 001) behind them; and the board of 02 #107, on which there are many. Comments cite 01 by
+//! its headings or words, 02 by its requests' numbers, and the clause by its own.
 //!
 //! The model covers histories: the calls that come from an event file, one record after another. Number 9 (a call
 //! that a host made up) is therefore left out, and of the numbers a call holds only its own is kept, since it alone
@@ -10,7 +10,9 @@ mod destination;
 pub mod events;
 mod originating;
 
-pub use events::{Access, Ask, Component, Digits, Event, Message, Name, Nature, Operation, Parts, Record, Role};
+pub use events::{
+    Access, Ask, Component, Digits, Event, Framed, Message, Name, Nature, Operation, Parts, Record, Role,
+};
 
 /// 01, "Numbers given back", 2: what the sum of the meters, or a Duration that a row uses, may not pass; and 02 #104:
 /// "2 also where the total would pass that limit".
@@ -58,7 +60,8 @@ pub mod cause {
 
 /// 01, "Numbers given back", and 02 #106: "1 stays for an event that has no row in this role at any time; 15 is for the
 /// wrong phase (the role has a row only in another phase); 16 for the wrong REV state (the role has a row in this phase).
-/// An event before the opening gets 17 and a second opening 18." Number 8 belongs to the listing, number 9 to hosts.
+/// An event before the opening gets 17". And 02 #107: "19 no such slot", "20 slot in use", which takes 18's place. Number 8
+/// belongs to the listing, 9 to hosts, and so does 21, for one that asks for a free slot.
 #[derive(Clone, Copy, PartialEq, Eq, Debug)]
 #[repr(u8)]
 pub enum Given {
@@ -74,13 +77,14 @@ pub enum Given {
     WrongPhase = 15,
     WrongState = 16,
     BeforeOpening = 17,
-    SecondOpening = 18,
+    NoSuchSlot = 19,
+    InUse = 20,
 }
 
 impl Given {
-    /// The five by which 02 #106 tells why there was no row.
+    /// The five that tell why there was no row (02 #106, and 02 #107 for the last).
     pub const NO_ROW: [Given; 5] =
-        [Given::NoRow, Given::WrongPhase, Given::WrongState, Given::BeforeOpening, Given::SecondOpening];
+        [Given::NoRow, Given::WrongPhase, Given::WrongState, Given::BeforeOpening, Given::InUse];
 }
 
 /// 01, "States and payers". NONE is the phase before the opening.
@@ -172,7 +176,7 @@ pub struct Answer {
     pub actions: Vec<Action>,
 }
 
-/// Why a well-formed event is refused. The order is 17 or 18; 1, 15 or 16; 4, 10, 2: a row is found first, then its parts
+/// Why a well-formed event is refused. The order is 17 or 20; 1, 15 or 16; 4, 10, 2: a row is found first, then its parts
 /// are looked for, then the payer, then the sums.
 #[derive(Clone, Copy, PartialEq, Eq, Debug)]
 enum Refusal {
@@ -314,16 +318,21 @@ impl Call {
         }
     }
 
-    /// 17 and 18, which hang on the record's kind alone: "17 and 18 before 3". A cleared call was opened too.
+    /// "An opening takes the slot it names if that was never opened or has cleared, so freed slots are used."
+    pub fn is_free(&self) -> bool {
+        matches!(self.phase, Phase::None | Phase::Cleared)
+    }
+
+    /// 17 and 20, which hang on the record's kind alone, and so come before 3.
     fn misplaced(&self, opening: bool) -> Option<Given> {
         match (self.phase, opening) {
             (Phase::None, false) => Some(Given::BeforeOpening),
-            (Phase::None, true) | (_, false) => None,
-            (_, true) => Some(Given::SecondOpening),
+            (_, true) if !self.is_free() => Some(Given::InUse),
+            _ => None,
         }
     }
 
-    /// The call that follows a record whose framing is right, with its event where all fields are in range: 17 or 18,
+    /// The call that follows a record whose framing is right, with its event where all fields are in range: 17 or 20,
     /// then 3, then what the event gets.
     pub fn take(self, record: &Record) -> (Option<Event>, Answer) {
         let refused = |given| Answer { given, row: None, call: self, actions: Vec::new() };
@@ -355,8 +364,9 @@ impl Call {
 
     fn find(self, event: &Event) -> Found {
         match (self.phase, event) {
-            (Phase::None, Event::Opening { role, flags, own }) => {
-                let opened = Call { role: *role, flags: *flags, own: *own, ..self };
+            // A call begins anew: nothing of the one that has cleared is left.
+            (Phase::None | Phase::Cleared, Event::Opening { role, flags, own }) => {
+                let opened = Call { role: *role, flags: *flags, own: *own, ..Call::before_opening() };
                 Ok(opened.row(Row::G(1)).state(Phase::Null, Rev::Idle))
             }
             (Phase::None | Phase::Cleared, _) | (_, Event::Opening { .. }) => Err(Refusal::NoRow),
@@ -441,10 +451,49 @@ pub fn states(role: Role) -> &'static [(Phase, Rev)] {
     }
 }
 
-/// One record of a file with what it did. There is no event where the framing or a field is bad.
+/// 02 #107: "The program's row has 64 slots."
+pub const SLOTS: usize = 64;
+
+/// The calls of a row, by their slots.
+#[derive(Clone, PartialEq, Eq, Debug)]
+pub struct Board([Call; SLOTS]);
+
+impl Board {
+    pub fn new() -> Board {
+        Board([Call::before_opening(); SLOTS])
+    }
+
+    /// The call of a slot; of one that is not there, a call that was never opened, as a listing shows it.
+    pub fn call(&self, slot: u16) -> Call {
+        self.0.get(usize::from(slot)).copied().unwrap_or_else(Call::before_opening)
+    }
+
+    /// What a record does: "An event at one slot changes nothing at another, and its answer depends on that slot's call and the
+    /// event alone." 19 is "before the inner record's field checks", and before 17 and 20.
+    pub fn take(&mut self, framed: &Framed) -> (Option<Event>, Answer) {
+        let Some(call) = self.0.get_mut(usize::from(framed.slot())) else {
+            let call = Call::before_opening();
+            return (
+                framed.record.event().ok(),
+                Answer { given: Given::NoSuchSlot, row: None, call, actions: Vec::new() },
+            );
+        };
+        let (event, answer) = call.take(&framed.record);
+        *call = answer.call;
+        (event, answer)
+    }
+}
+
+/// One record of a file with what it did, at a slot and to the call there. There is no event where the framing or a field is
+/// bad.
 #[derive(Clone, PartialEq, Eq, Debug)]
 pub struct Shown {
     pub ordinal: u32,
+    pub slot: u16,
+    /// whether it is a record of kind 7
+    pub in_slot: bool,
+    /// the phase of the call that it came to
+    pub from: Phase,
     pub event: Option<Event>,
     pub answer: Answer,
 }
@@ -452,25 +501,37 @@ pub struct Shown {
 /// Goes through a file record by record.
 pub struct History<'a> {
     file: &'a [u8],
-    call: Call,
+    board: Board,
     shown: u32,
-    /// The answered seconds by the records, the numbers given back and the phases: those of the time events accepted in
-    /// ANSWERED since the opening.
-    answered: u64,
+    /// Of each slot the answered seconds by the records, the numbers given back and the phases: those of the time events
+    /// accepted in ANSWERED since "its latest accepted opening".
+    answered: [u64; SLOTS],
 }
 
 impl<'a> History<'a> {
     pub fn new(file: &'a [u8]) -> History<'a> {
-        History { file, call: Call::before_opening(), shown: 0, answered: 0 }
+        History { file, board: Board::new(), shown: 0, answered: [0; SLOTS] }
     }
 
-    /// Counts the answered seconds, without a look at the call's meters and total.
-    fn count(&mut self, event: &Event, answer: &Answer) {
+    /// Counts the answered seconds of a slot, without a look at the call's meters and total.
+    fn count(&mut self, slot: u16, from: Phase, event: &Event, answer: &Answer) {
+        if answer.given != Given::Applied {
+            return;
+        }
+        let answered = &mut self.answered[usize::from(slot)];
         match event {
-            _ if answer.given != Given::Applied => {}
-            Event::Opening { .. } => self.answered = 0,
-            Event::Time(seconds) if self.call.phase == Phase::Answered => self.answered += u64::from(*seconds),
+            Event::Opening { .. } => *answered = 0,
+            Event::Time(seconds) if from == Phase::Answered => *answered += u64::from(*seconds),
             _ => {}
+        }
+    }
+
+    /// No listing shows the total, so nothing else would tell.
+    fn check_total(&self, slot: u16) {
+        let answered = self.answered.get(usize::from(slot)).copied().unwrap_or(0);
+        let call = self.board.call(slot);
+        if let Some(wrong) = call.wrong_total(answered) {
+            panic!("record {}: the total of slot {slot} {wrong}: {call:?}", self.shown);
         }
     }
 }
@@ -482,29 +543,27 @@ impl Iterator for History<'_> {
         if self.file.is_empty() {
             return None;
         }
-        let unread = |given| Answer { given, row: None, call: self.call, actions: Vec::new() };
-        let (event, answer) = match events::frame(self.file) {
-            // 5, and 6 and 7 as 5: "reading stops here".
+        self.shown += 1;
+        let ordinal = self.shown;
+        let framed = match events::frame(self.file) {
+            Ok(framed) => framed,
+            // 5, and 6 and 7 as 5: "reading stops here". "after 5, 6 or 7, slot 0 and its call".
             Err(given) => {
                 self.file = &[];
-                (None, unread(given))
-            }
-            Ok(record) => {
-                self.file = &self.file[record.size()..];
-                let (event, answer) = self.call.take(&record);
-                if let Some(event) = &event {
-                    self.count(event, &answer);
-                }
-                (event, answer)
+                let call = self.board.call(0);
+                let answer = Answer { given, row: None, call, actions: Vec::new() };
+                return Some(Shown { ordinal, slot: 0, in_slot: false, from: call.phase, event: None, answer });
             }
         };
-        self.call = answer.call;
-        self.shown += 1;
-        // No listing shows the total, so nothing else would tell.
-        if let Some(wrong) = self.call.wrong_total(self.answered) {
-            panic!("record {}: the total {wrong}: {:?}", self.shown, self.call);
+        self.file = &self.file[framed.size()..];
+        let (slot, in_slot) = (framed.slot(), framed.named.is_some());
+        let from = self.board.call(slot).phase;
+        let (event, answer) = self.board.take(&framed);
+        if let Some(event) = &event {
+            self.count(slot, from, event, &answer);
         }
-        Some(Shown { ordinal: self.shown, event, answer })
+        self.check_total(slot);
+        Some(Shown { ordinal, slot, in_slot, from, event, answer })
     }
 }
 
@@ -711,5 +770,71 @@ mod tests {
         let call = after(opened(Role::Originating, 0), &[Event::Ask(Ask::Basic), plain(Name::Anm)]);
         let made_up = Call { payer: Payer::Nobody, far: YEAR, total: YEAR, ..call };
         assert_eq!(made_up.answer(&Event::Time(1)).given, Given::NobodyPays);
+    }
+
+    /// 02 #107: an opening begins anew where a call has cleared, in either role and with nothing of it left, and is 20 where one
+    /// is open, whatever its fields; a bad field at a call that has cleared leaves it.
+    #[test]
+    fn freed_slots_are_used() {
+        let own = Digits { nature: Nature::International, count: 2, value: 9 };
+        let opening = Event::Opening { role: Role::Destination, flags: 16, own };
+        let anew = Call::before_opening().answer(&opening).call;
+        let basic = [Event::Ask(Ask::Basic), plain(Name::Anm), Event::Time(5), Event::Access(Access::Clear)];
+        let mut call = opened(Role::Originating, 9);
+        for event in basic {
+            let refused = call.answer(&opening);
+            assert_eq!((refused.given, refused.call, refused.row), (Given::InUse, call, None));
+            call = after(call, &[event]);
+        }
+        assert_eq!((call.total, meters(call)), (5, (5, 0, 0)));
+        let answer = call.answer(&opening);
+        assert_eq!((answer.given, answer.row, answer.call), (Given::Applied, Some(Row::G(1)), anew));
+        let bad = [13, 0, 1, 0, 0, 32, 1, 5, 0, 0, 0, 0, 0, 0, 0];
+        let (event, answer) = call.take(&events::plain(&bad).expect("right framing"));
+        assert_eq!((event, answer.given, answer.call), (None, Given::OutOfRange, call));
+    }
+
+    /// A record at a slot, whose inner record is plain.
+    fn at(slot: u16, inner: &[u8]) -> Vec<u8> {
+        [&[inner.len() as u8 + 4, 0, 7, 0], &slot.to_le_bytes()[..], inner].concat()
+    }
+
+    const OPENING: [u8; 15] = [13, 0, 1, 0, 0, 8, 1, 5, 0, 0, 0, 0, 0, 0, 0];
+    const BASIC: [u8; 14] = [12, 0, 2, 0, 0, 1, 5, 0, 0, 0, 0, 0, 0, 0];
+
+    /// "Two events at different slots give the same row of calls in either order, openings included."
+    #[test]
+    fn slots_do_not_meet() {
+        let (first, second) = ([at(3, &OPENING), at(3, &BASIC)].concat(), [at(63, &OPENING), at(63, &BASIC)].concat());
+        let after = |records: [&[u8]; 2]| {
+            let file = records.concat();
+            let mut history = History::new(&file);
+            let given: Vec<Given> = history.by_ref().map(|shown| shown.answer.given).collect();
+            assert_eq!(given, [Given::Applied; 4]);
+            history.board
+        };
+        assert_eq!(after([&first, &second]), after([&second, &first]));
+        let board = after([&first, &second]);
+        assert_eq!([0, 3, 62, 63].map(|slot| board.call(slot).phase), {
+            use Phase::{None, Setup};
+            [None, Setup, None, Setup]
+        });
+    }
+
+    /// A slot past 63 is 19 before all but the framing, and the row stays.
+    #[test]
+    fn no_such_slot() {
+        let bad = [13, 0, 1, 0, 2, 32, 1, 5, 0, 0, 0, 0, 0, 0, 0];
+        for slot in [64, 65, 255, 256, 16_128, u16::MAX] {
+            for inner in [OPENING.as_slice(), &bad, &BASIC, &[6, 0, 6, 0, 255, 255, 255, 255]] {
+                let file = [OPENING.to_vec(), at(slot, inner), BASIC.to_vec()].concat();
+                let mut history = History::new(&file);
+                let shown: Vec<Shown> = history.by_ref().collect();
+                assert_eq!((shown[1].slot, shown[1].answer.given), (slot, Given::NoSuchSlot));
+                assert_eq!(shown[1].answer.call, Call::before_opening());
+                assert_eq!(shown[2].answer.given, Given::Applied);
+                assert!((1..64).all(|other| history.board.call(other) == Call::before_opening()));
+            }
+        }
     }
 }

@@ -12,7 +12,7 @@ const PHASES: [(Phase, &str); 4] =
 const NAMES: [(Name, &str); 5] =
     [(Name::Iam, "IAM"), (Name::Anm, "ANM"), (Name::Con, "CON"), (Name::Rel, "REL"), (Name::Fac, "FAC")];
 
-/// One of each event that the rows tell apart, in the table's order. An opening is none of them: 17 and 18 need no table.
+/// One of each event that the rows tell apart, in the table's order. An opening is none of them: 17 and 20 need no table.
 pub fn events() -> Vec<Event> {
     let operations = [Operation::Setup, Operation::Active, Operation::Called];
     let mut components = vec![Component::None];
@@ -110,7 +110,7 @@ pub fn table() -> String {
 #[cfg(test)]
 mod tests {
     use super::*;
-    use crate::model::{Case, Nature};
+    use crate::model::{Case, Nature, Row};
 
     #[test]
     fn the_table_of_the_page() {
@@ -195,10 +195,11 @@ mod tests {
         }
     }
 
-    /// 17 and 18 whatever the event is, and whatever its fields are.
+    /// 17 whatever the event is, and 20 where a call is open, whatever the fields are. An opening at a call that has cleared has
+    /// a row (02 #107).
     #[test]
     fn before_and_after_the_opening() {
-        use crate::model::events::frame;
+        use crate::model::events::plain;
         let records: [&[u8]; 10] = [
             &[12, 0, 2, 0, 0, 1, 5, 0, 0, 0, 0, 0, 0, 0],
             &[12, 0, 2, 0, 9, 1, 5, 0, 0, 0, 0, 0, 0, 0],
@@ -212,23 +213,27 @@ mod tests {
             &[16, 0, 3, 0, 1, 0, 0, 0, 16, 0, 0, 0, 0, 0, 0, 0, 0, 0],
         ];
         for bytes in records {
-            let (_, answer) = Call::before_opening().take(&frame(bytes).expect("right framing"));
+            let (_, answer) = Call::before_opening().take(&plain(bytes).expect("right framing"));
             assert_eq!((answer.given, answer.call), (Given::BeforeOpening, Call::before_opening()), "{bytes:?}");
         }
-        for opening in
-            [[13, 0, 1, 0, 1, 8, 1, 5, 0, 0, 0, 0, 0, 0, 0], [13, 0, 1, 0, 9, 99, 16, 5, 0, 0, 0, 0, 0, 0, 0]]
-        {
-            let record = frame(&opening).expect("right framing");
-            for role in ROLES {
-                for &(phase, rev) in states(role) {
-                    let call = call(role, phase, rev, 0);
-                    let (_, answer) = call.take(&record);
-                    assert_eq!((answer.given, answer.call, answer.row), (Given::SecondOpening, call, None));
+        let good = [13, 0, 1, 0, 1, 8, 1, 5, 0, 0, 0, 0, 0, 0, 0];
+        let bad = [13, 0, 1, 0, 9, 99, 16, 5, 0, 0, 0, 0, 0, 0, 0];
+        let taken = |call: Call, opening: &[u8]| call.take(&plain(opening).expect("right framing")).1;
+        let anew = taken(Call::before_opening(), &good).call;
+        for role in ROLES {
+            for &(phase, rev) in states(role) {
+                let call = call(role, phase, rev, 0);
+                for opening in [&good, &bad] {
+                    let answer = taken(call, opening);
+                    let wanted = match (phase, opening == &good) {
+                        (Phase::Cleared, true) => (Given::Applied, anew, Some(Row::G(1))),
+                        (Phase::Cleared, false) => (Given::OutOfRange, call, None),
+                        _ => (Given::InUse, call, None),
+                    };
+                    assert_eq!((answer.given, answer.call, answer.row), wanted);
                 }
             }
         }
-        let bad = [13, 0, 1, 0, 9, 0, 1, 5, 0, 0, 0, 0, 0, 0, 0];
-        let (_, answer) = Call::before_opening().take(&frame(&bad).expect("right framing"));
-        assert_eq!(answer.given, Given::OutOfRange);
+        assert_eq!(taken(Call::before_opening(), &bad).given, Given::OutOfRange);
     }
 }

@@ -70,8 +70,17 @@ impl<'a> Words<'a> {
         self.0.next_if_eq(&word).is_some()
     }
 
-    /// The record of the whole line.
+    /// The record of the whole line: one of kind 7 has its slot before the words of the record inside.
     fn record(mut self) -> Option<Vec<u8>> {
+        if !self.take("SLOT") {
+            return self.plain_record();
+        }
+        let slot = u16::try_from(decimal(self.0.next()?)?).ok()?.to_le_bytes().to_vec();
+        let inner = self.plain_record()?;
+        Some([vec![4 + inner.len() as u8, 0, 7, 0], slot, inner].concat())
+    }
+
+    fn plain_record(mut self) -> Option<Vec<u8>> {
         let (kind, body) = match self.0.next()? {
             "OPENING" => {
                 (1, [vec![self.named(&["originating", "destination"], 0)?, self.flags()?], self.number()?].concat())
@@ -229,6 +238,9 @@ mod tests {
         assert_eq!(words("MESSAGE 8 1 REJECT 7 PARTIAL PART 128"), Some(vec![7, 0, 3, 0, 8, 1, 4, 7, 136]));
         assert_eq!(words("FAC 0 DURATION 40"), Some(vec![11, 0, 3, 0, 5, 0, 0, 0, 64, 40, 0, 0, 0]));
         assert_eq!(words("ACCESS CLEAR 0"), Some(vec![4, 0, 4, 0, 4, 0]));
+        assert_eq!(words("SLOT 5 TIME 60"), Some(vec![12, 0, 7, 0, 5, 0, 6, 0, 6, 0, 60, 0, 0, 0]));
+        assert_eq!(words("SLOT 65535 EXPIRY"), Some(vec![8, 0, 7, 0, 255, 255, 2, 0, 5, 0]));
+        assert_eq!(words("SLOT 0 FAC 0 NONE 9"), Some(vec![13, 0, 7, 0, 0, 0, 7, 0, 3, 0, 5, 0, 0, 9, 0]));
     }
 
     #[test]
@@ -303,6 +315,21 @@ mod tests {
             "FAC 0 PARTIAL TRANSFER",
             "FAC 0 PART 64",
             "FAC 256",
+            "SLOT",
+            "SLOT 5",
+            "SLOT 5 ",
+            "SLOT EXPIRY",
+            "SLOT 05 EXPIRY",
+            "SLOT +5 EXPIRY",
+            "SLOT -1 EXPIRY",
+            "SLOT x EXPIRY",
+            "SLOT 65536 EXPIRY",
+            "SLOT 5  EXPIRY",
+            "SLOT 5 SLOT 5 EXPIRY",
+            "SLOT 5 5 EXPIRY",
+            "SLOT 5 CUT-SHORT",
+            "slot 5 EXPIRY",
+            "EXPIRY SLOT 5",
         ] {
             assert_eq!(words(line), None, "{line}");
         }
@@ -318,7 +345,7 @@ mod tests {
         for line in text.lines().filter(|line| !line.is_empty() && !line.starts_with('#')) {
             let (said, answer) = line.split_once(" = ").expect("words and an answer");
             let record = words(said).unwrap_or_else(|| panic!("{line}: no record has these words"));
-            let event = events::frame(&record).expect("right framing").event();
+            let event = events::frame(&record).expect("right framing").record.event();
             if let Err(field) = event {
                 assert_eq!(format!("3 {field}"), answer, "{line}");
             } else {

@@ -1,5 +1,5 @@
-//! The model's own writer of events, from docs/FORMAT.md and 02 #102 and #103. It shares no code with the reader of the model, and takes
-//! fields as a host gives them, in range or not.
+//! The model's own writer of events, from docs/FORMAT.md and 02 #102 and #103, and of records of kind 7 (02 #107). It shares no code with
+//! the reader of the model, and takes fields as a host gives them, in range or not.
 
 /// What a telephone number is, as 02 #103 adds it.
 #[derive(Clone, Copy, PartialEq, Eq, Debug)]
@@ -130,9 +130,12 @@ pub enum Event {
     Time { seconds: u32 },
 }
 
-/// 02 #102: "Refusals: 3, then 8." And 02 #106: "Where 3 is told, give the field's ordinal in the body as well".
+/// 02 #102: "Refusals: 3, then 8." And 02 #106: "Where 3 is told, give the field's ordinal in the body as well". Where a record is lent,
+/// its framing is judged before.
 #[derive(Clone, Copy, PartialEq, Eq, Debug)]
 pub enum Refusal {
+    /// 5, 6 or 7
+    Framing(u8),
     /// from 1; 0 where no field of it is to blame
     BadField {
         ordinal: u32,
@@ -143,6 +146,7 @@ pub enum Refusal {
 impl Refusal {
     pub fn number(self) -> u8 {
         match self {
+            Refusal::Framing(number) => number,
             Refusal::BadField { .. } => 3,
             Refusal::NoRoom => 8,
         }
@@ -151,7 +155,7 @@ impl Refusal {
     pub fn ordinal(self) -> u32 {
         match self {
             Refusal::BadField { ordinal } => ordinal,
-            Refusal::NoRoom => 0,
+            Refusal::Framing(_) | Refusal::NoRoom => 0,
         }
     }
 
@@ -278,6 +282,80 @@ impl Event {
             4 => Event::Access { told: fields.byte(), error: fields.byte() },
             5 => Event::Expiry,
             _ => Event::Time { seconds: fields.seconds(true) },
+        }
+    }
+}
+
+/// A record of kind 7 to be written: "two bytes of slot, then a whole inner record of kind 1 to 6", which stands at the start of `lent`.
+/// What follows it there is not looked at, and of the slot nothing is judged: which slots a row has, its reader knows.
+#[derive(Clone, PartialEq, Eq, Debug)]
+pub struct InSlot {
+    pub slot: u16,
+    pub lent: Vec<u8>,
+}
+
+impl InSlot {
+    /// The plain record, or 5, 6 or 7 where none stands there: judged as if it were a file of its own, in which no record is of kind 7.
+    pub fn plain(&self) -> Result<&[u8], u8> {
+        let [low, high, follow @ ..] = &self.lent[..] else { return Err(5) };
+        let length = usize::from(*low) + 256 * usize::from(*high);
+        if !(2..30).contains(&length) {
+            return Err(6);
+        }
+        if follow.len() < length {
+            return Err(5);
+        }
+        let right = match (follow[0], follow[1]) {
+            (1, 0) => 2 + 2 + 9,
+            (2, 0) => 2 + 1 + 9,
+            (3, 0) => {
+                let parts = if length < 7 { 0 } else { follow[6] };
+                let brings = |part: u8, bytes: usize| usize::from(parts / part % 2) * bytes;
+                2 + 5 + brings(part::CALLING, 9) + brings(part::CALLED, 9) + brings(part::DURATION, 4)
+            }
+            (4, 0) => 2 + 2,
+            (5, 0) => 2,
+            (6, 0) => 2 + 4,
+            _ => return Err(7),
+        };
+        if length == right {
+            Ok(&self.lent[..2 + length])
+        } else {
+            Err(6)
+        }
+    }
+
+    /// The event of the plain record, if there is one.
+    pub fn event(&self) -> Option<Event> {
+        self.plain().ok().map(Event::of_record)
+    }
+
+    /// The record, in a room of so many bytes. The ordinal of a bad field is counted in the inner body.
+    pub fn write(&self, room: usize) -> Result<Vec<u8>, Refusal> {
+        let plain = self.plain().map_err(Refusal::Framing)?;
+        if let [ordinal, ..] = Event::of_record(plain).bad_ordinals()[..] {
+            return Err(Refusal::BadField { ordinal });
+        }
+        let record = [&[plain.len() as u8 + 4, 0, 7, 0], &self.slot.to_le_bytes()[..], plain].concat();
+        if record.len() > room {
+            return Err(Refusal::NoRoom);
+        }
+        Ok(record)
+    }
+}
+
+/// What a writer is asked for.
+#[derive(Clone, PartialEq, Eq, Debug)]
+pub enum Asked {
+    Event(Event),
+    InSlot(InSlot),
+}
+
+impl Asked {
+    pub fn write(&self, room: usize) -> Result<Vec<u8>, Refusal> {
+        match self {
+            Asked::Event(event) => event.write(room),
+            Asked::InSlot(record) => record.write(room),
         }
     }
 }
@@ -504,6 +582,88 @@ mod tests {
         }
         assert_eq!(Refusal::BadField { ordinal: 5 }.given(), 3 + 5 * 256);
         assert_eq!(Refusal::NoRoom.given(), 8);
+        assert_eq!(Refusal::Framing(7).given(), 7);
+    }
+
+    fn in_slot(slot: u16, lent: &[u8]) -> InSlot {
+        InSlot { slot, lent: lent.to_vec() }
+    }
+
+    /// 02 #107: the shortest and the longest, with more behind the plain record and without, at any slot.
+    #[test]
+    fn records_in_slots() {
+        for (plain, head) in [(vec![2, 0, 5, 0], [8, 0, 7, 0]), (full_record(), [35, 0, 7, 0])] {
+            for (slot, bytes) in [(0, [0, 0]), (63, [63, 0]), (64, [64, 0]), (0x0102, [2, 1]), (u16::MAX, [255, 255])] {
+                let record = [&head[..], &bytes, &plain].concat();
+                for lent in [plain.clone(), [plain.clone(), vec![9]].concat(), [&plain[..], &plain].concat()] {
+                    let asked = in_slot(slot, &lent);
+                    assert_eq!(asked.write(record.len() - 1), Err(Refusal::NoRoom));
+                    assert_eq!(asked.write(0), Err(Refusal::NoRoom));
+                    assert_eq!(asked.write(record.len()).as_ref(), Ok(&record));
+                }
+            }
+        }
+    }
+
+    /// The framing of what is lent, then its fields, then the room.
+    #[test]
+    fn records_that_cannot_be_put_in_a_slot() {
+        let framing = |number| Err(Refusal::Framing(number));
+        for (lent, number) in [
+            (vec![], 5),
+            (vec![2], 5),
+            (vec![2, 0, 5], 5),
+            (vec![6, 0, 6, 0, 1, 0, 0], 5),
+            (vec![0, 0], 6),
+            (vec![1, 0, 5, 0], 6),
+            (vec![30, 0], 6),
+            (vec![30, 0, 7, 0], 6),
+            (vec![2, 1, 5, 0], 6),
+            (vec![3, 0, 5, 0, 0], 6),
+            (vec![7, 0, 3, 0, 5, 0, 0, 0, 16], 6),
+            (vec![6, 0, 3, 0, 5, 0, 0, 0], 6),
+            (vec![2, 0, 0, 0], 7),
+            (vec![2, 0, 5, 1], 7),
+            (vec![8, 0, 7, 0, 0, 0, 2, 0, 5, 0], 7),
+            (vec![3, 0, 9, 0, 0], 7),
+        ] {
+            for room in [0, 40] {
+                assert_eq!(in_slot(64, &lent).write(room), framing(number), "{lent:?}");
+            }
+        }
+        for (lent, ordinal) in [
+            (vec![6, 0, 6, 0, 0x81, 0x51, 1, 0], 1),
+            (vec![4, 0, 4, 0, 1, 1], 2),
+            (vec![7, 0, 3, 0, 5, 0, 0, 0, 128], 5),
+            ([vec![13, 0, 1, 0, 1, 32], vec![0; 9]].concat(), 2),
+            ([vec![16, 0, 3, 0, 5, 0, 0, 0, 32], vec![0; 9]].concat(), 6),
+        ] {
+            for room in [0, 40] {
+                assert_eq!(in_slot(5, &lent).write(room), Err(Refusal::BadField { ordinal }), "{lent:?}");
+            }
+        }
+    }
+
+    /// Its framing is the reader's of a plain record, and what it writes the reader reads.
+    #[test]
+    fn framing_is_that_of_the_reader() {
+        use crate::model::events;
+        for length in 0..40_u8 {
+            for kind in 0..10 {
+                for (parts, there) in [(0, 60), (16, 60), (32, 60), (64, 60), (80, 60), (112, 60), (0, 20)] {
+                    let mut lent = vec![length, 0, kind, 0, 1, 0, 0, 0, parts];
+                    lent.resize(there, 0);
+                    let asked = in_slot(9, &lent);
+                    let read = events::plain(&lent).map(|record| record.bytes()).map_err(|given| given as u8);
+                    assert_eq!(asked.plain(), read);
+                    if let Ok(record) = asked.write(40) {
+                        let framed = events::frame(&record).expect("right framing");
+                        assert_eq!((framed.named, framed.size()), (Some(9), record.len()));
+                        assert_eq!(Ok(framed.record.bytes()), asked.plain());
+                    }
+                }
+            }
+        }
     }
 
     /// Every byte of a field and every number around its bounds are judged as the reader judges them.
@@ -511,7 +671,7 @@ mod tests {
     fn ranges_are_those_of_the_reader() {
         let judged = |event: Event| {
             let record = event.record();
-            let read = crate::model::events::frame(&record).expect("right framing").event();
+            let read = crate::model::events::plain(&record).expect("right framing").event();
             assert_eq!(event.bad_ordinals().first().copied(), read.err().map(|ordinal| ordinal as u32), "{event:?}");
         };
         for byte in 0..=255 {

@@ -10,6 +10,11 @@ fn record(kind: u8, body: &[u8]) -> Vec<u8> {
     bytes
 }
 
+/// A record of kind 7 around another, which need not be one that belongs there.
+pub fn in_slot(slot: u16, inner: &[u8]) -> Vec<u8> {
+    record(7, &[&slot.to_le_bytes(), inner].concat())
+}
+
 pub fn opening_of(role: u8, flags: u8, own: Number) -> Vec<u8> {
     record(1, &[vec![role, flags], own.bytes()].concat())
 }
@@ -229,15 +234,15 @@ fn spoil_message(random: &mut Random, body: &mut [u8]) {
 #[cfg(test)]
 mod tests {
     use super::*;
-    use crate::model::events::{frame, Event};
+    use crate::model::events::{plain, Event};
 
     #[test]
     fn any_event_is_framed_and_in_range() {
         let mut random = Random::new(2, 0);
         for _ in 0..5000 {
             let bytes = any(&mut random);
-            let record = frame(&bytes).expect("right framing");
-            assert_eq!(record.size(), bytes.len());
+            let record = plain(&bytes).expect("right framing");
+            assert_eq!(record.bytes(), bytes);
             assert!(record.event().is_ok() || bytes[2] == 6, "{bytes:?}");
         }
     }
@@ -250,7 +255,7 @@ mod tests {
         for _ in 0..5000 {
             let mut bytes = any(&mut random);
             spoil(&mut random, &mut bytes);
-            let record = frame(&bytes).expect("right framing");
+            let record = plain(&bytes).expect("right framing");
             bad += u32::from(record.event().is_err());
         }
         assert!(bad > 3500, "{bad} of 5000 bad");
@@ -261,8 +266,8 @@ mod tests {
         for space in 32..120 {
             let records = filling(space);
             assert_eq!(records.iter().map(Vec::len).sum::<usize>(), space);
-            assert!(records.iter().all(|record| frame(record).is_ok_and(|record| record.event().is_ok())));
+            assert!(records.iter().all(|record| plain(record).is_ok_and(|record| record.event().is_ok())));
         }
-        assert_eq!(frame(&expiry()).expect("a record").event(), Ok(Event::Expiry));
+        assert_eq!(plain(&expiry()).expect("a record").event(), Ok(Event::Expiry));
     }
 }

@@ -1,15 +1,83 @@
-//! Events for a writer, in range or not, each with the bytes of the buffer that it is lent.
+//! Events for a writer, in range or not, and records to be put in a slot, each with the bytes of the buffer that it is lent.
 
 use super::fields;
 use super::random::Random;
-use crate::write::{part, Event, Message, Nature, Number};
+use crate::write::{part, Asked, Event, InSlot, Message, Nature, Number};
 
-/// The event and the buffer of a seed and an ordinal. Each can be made again without those before it.
-pub fn lent(seed: u64, ordinal: u64) -> (Event, Vec<u8>) {
+/// What is asked for and the buffer, of a seed and an ordinal. Each can be made again without those before it.
+pub fn lent(seed: u64, ordinal: u64) -> (Asked, Vec<u8>) {
     let mut random = Random::new(seed, ordinal);
-    let event = event(&mut random);
-    let room = room(&mut random, event.size());
-    (event, (0..room).map(|_| random.byte()).collect())
+    let (asked, size) = if random.below(4) == 0 {
+        let asked = in_slot(&mut random);
+        // as if there were a record where there is none
+        let size = 6 + asked.plain().map_or(9, <[u8]>::len);
+        (Asked::InSlot(asked), size)
+    } else {
+        let event = event(&mut random);
+        (Asked::Event(event), event.size())
+    };
+    let room = room(&mut random, size);
+    (asked, (0..room).map(|_| random.byte()).collect())
+}
+
+/// A record to be put in a slot: in range, with bad fields, or none at all; bytes may come after it.
+fn in_slot(random: &mut Random) -> InSlot {
+    let slot = match random.below(4) {
+        0 => random.pick(&[0, 63, 64, 255, 256, u16::MAX]),
+        _ => random.next() as u16,
+    };
+    let mut lent = match random.below(16) {
+        0..=6 => fields::any(random),
+        7..=9 => {
+            let mut record = fields::any(random);
+            fields::spoil(random, &mut record);
+            if random.below(3) == 0 {
+                fields::spoil(random, &mut record);
+            }
+            record
+        }
+        10 => fields::longest_message(random),
+        _ => return InSlot { slot, lent: no_record(random) },
+    };
+    if random.below(3) == 0 {
+        for _ in 0..1 + random.below(12) {
+            lent.push(random.byte());
+        }
+    }
+    InSlot { slot, lent }
+}
+
+/// What stands where a plain record should: cut short, or of a length or a kind that none has.
+fn no_record(random: &mut Random) -> Vec<u8> {
+    let mut record = fields::any(random);
+    let size = record.len() as u64;
+    match random.below(10) {
+        0 => vec![],
+        1 => record[..1].to_vec(),
+        2 => record[..2 + random.below(2) as usize].to_vec(),
+        3 => record[..2 + random.below(size - 2) as usize].to_vec(),
+        4 => {
+            record[0] = random.pick(&[0, 1, 30, 31, 35, 36, 255]);
+            record
+        }
+        5 => {
+            record[1] = random.pick(&[1, 255]);
+            record
+        }
+        6..=7 => {
+            let kind: u16 = random.pick(&[0, 7, 8, 255, 256, 0x0105, 0xFFFF]);
+            record[2..4].copy_from_slice(&kind.to_le_bytes());
+            record
+        }
+        8 => fields::in_slot(5, &record),
+        // of another length than its kind's, with as many bytes; the parts of a message may say just that
+        _ => {
+            let length = 2 + random.below(28) as usize;
+            record[0] = length as u8;
+            record.resize(2 + length, 0);
+            record
+        }
+    }
 }
 
 /// Half of them are in range; the rest have one bad field or two, or any bytes at all.

@@ -130,31 +130,68 @@ fn judged<Value>(value: Option<Value>, ordinal: Ordinal) -> Result<Value, Ordina
     value.ok_or(ordinal)
 }
 
-/// A record whose framing is right: a known kind, and a body as long as the kind says.
+/// A plain record whose framing is right: a kind of 1 to 6, and a body as long as the kind says.
 #[derive(Clone, Copy, PartialEq, Eq, Debug)]
 pub struct Record<'a> {
     kind: u16,
     body: &'a [u8],
+    bytes: &'a [u8],
 }
+
+/// 02 #107: "Event files get kind 7: two bytes of slot, then a whole inner record of kind 1 to 6".
+#[derive(Clone, Copy, PartialEq, Eq, Debug)]
+pub struct Framed<'a> {
+    /// The slot that a record of kind 7 names; a plain record names none.
+    pub named: Option<u16>,
+    /// The plain record, or the one inside.
+    pub record: Record<'a>,
+    bytes: &'a [u8],
+}
+
+impl Framed<'_> {
+    /// "A plain record of kind 1 to 6 acts on slot 0."
+    pub fn slot(&self) -> u16 {
+        self.named.unwrap_or(0)
+    }
+
+    /// The bytes that the record takes in its file.
+    pub fn size(&self) -> usize {
+        self.bytes.len()
+    }
+}
+
+/// The longest plain record, and the longest of kind 7, by what they say of their lengths.
+const LONGEST_PLAIN: usize = 29;
+const LONGEST: usize = 35;
+
+const IN_A_SLOT: u16 = 7;
 
 fn two_bytes(bytes: &[u8]) -> u16 {
     u16::from_le_bytes([bytes[0], bytes[1]])
 }
 
-/// Finds the record at the start of `file`, which isn't empty. The order is 5, 6, 5, 7, 6: "5 if two length bytes
-/// aren't there; 6 for the range; 5 if bytes lack; 7; 6 for the kind".
-pub fn frame(file: &[u8]) -> Result<Record<'_>, Given> {
-    if file.len() < 2 {
+/// What follows the length of the record at the start of `bytes`. The order is 5, 6, 5: "5 if two length bytes aren't there;
+/// 6 for the range; 5 if bytes lack".
+fn counted(bytes: &[u8], most: usize) -> Result<&[u8], Given> {
+    if bytes.len() < 2 {
         return Err(Given::CutShort);
     }
-    let length = usize::from(two_bytes(file));
-    if !(2..=29).contains(&length) {
+    let length = usize::from(two_bytes(bytes));
+    if !(2..=most).contains(&length) {
         return Err(Given::BadLength);
     }
-    let Some(follows) = file.get(2..2 + length) else {
-        return Err(Given::CutShort);
-    };
-    let (kind, body) = (two_bytes(follows), &follows[2..]);
+    // 02 #107: "30 to 35 with another kind stays 6, with the kind cut off 5"; so 6 also where bytes lack after the kind.
+    if length > LONGEST_PLAIN {
+        let kind = bytes.get(2..4).ok_or(Given::CutShort)?;
+        if two_bytes(kind) != IN_A_SLOT {
+            return Err(Given::BadLength);
+        }
+    }
+    bytes.get(2..2 + length).ok_or(Given::CutShort)
+}
+
+/// A record of this kind with this body, which are `bytes` of the file with the length before them: "7; 6 for the kind".
+fn of_kind<'a>(bytes: &'a [u8], kind: u16, body: &'a [u8]) -> Result<Record<'a>, Given> {
     let right = match kind {
         1 => body.len() == 1 + 1 + 9,
         2 => body.len() == 1 + 9,
@@ -165,10 +202,40 @@ pub fn frame(file: &[u8]) -> Result<Record<'_>, Given> {
         _ => return Err(Given::UnknownKind),
     };
     if right {
-        Ok(Record { kind, body })
+        Ok(Record { kind, body, bytes })
     } else {
         Err(Given::BadLength)
     }
+}
+
+/// Finds the record at the start of `file`, which isn't empty. The order is 5, 6, 5, 7, 6.
+pub fn frame(file: &[u8]) -> Result<Framed<'_>, Given> {
+    let follows = counted(file, LONGEST)?;
+    let bytes = &file[..2 + follows.len()];
+    let (kind, body) = (two_bytes(follows), &follows[2..]);
+    if kind == IN_A_SLOT {
+        return inside(body).map(|(slot, record)| Framed { named: Some(slot), record, bytes });
+    }
+    of_kind(bytes, kind, body).map(|record| Framed { named: None, record, bytes })
+}
+
+/// What a record of kind 7 holds, a slot and a record: "its length is 8 to 35"; "Inside: 6 if the inner length doesn't fill
+/// it, then 7, then 6 for the kind." None is of kind 7.
+fn inside(body: &[u8]) -> Result<(u16, Record<'_>), Given> {
+    if body.len() < 2 + 2 + 2 {
+        return Err(Given::BadLength);
+    }
+    let (slot, inner) = (two_bytes(body), &body[2..]);
+    if usize::from(two_bytes(inner)) != inner.len() - 2 {
+        return Err(Given::BadLength);
+    }
+    Ok((slot, of_kind(inner, two_bytes(&inner[2..]), &inner[4..])?))
+}
+
+/// Finds the plain record at the start of `bytes`, judged as in a file, where none of kind 7 is looked for.
+pub fn plain(bytes: &[u8]) -> Result<Record<'_>, Given> {
+    let follows = counted(bytes, LONGEST_PLAIN)?;
+    of_kind(&bytes[..2 + follows.len()], two_bytes(follows), &follows[2..])
 }
 
 /// "a kind 3 length follows parts 16, 32 and 64 alone"
@@ -177,10 +244,10 @@ fn parts_length(parts: u8) -> usize {
     one(16, 9) + one(32, 9) + one(64, 4)
 }
 
-impl Record<'_> {
-    /// The bytes that the record takes in its file.
-    pub fn size(&self) -> usize {
-        2 + 2 + self.body.len()
+impl<'a> Record<'a> {
+    /// Length and kind are among them.
+    pub fn bytes(&self) -> &'a [u8] {
+        self.bytes
     }
 
     pub fn is_opening(&self) -> bool {
@@ -341,16 +408,17 @@ mod tests {
 
     #[test]
     fn framing_in_its_order() {
-        let cases: [(&[u8], Given); 13] = [
+        let cases: [(&[u8], Given); 14] = [
             (&[6], Given::CutShort),
+            (&[0, 0], Given::BadLength),
             (&[1, 0], Given::BadLength),
-            (&[30, 0], Given::BadLength),
+            (&[36, 0], Given::BadLength),
             (&[2, 1, 5, 0], Given::BadLength),
             (&[2, 0], Given::CutShort),
             (&[29, 0, 9, 9], Given::CutShort),
             (&[2, 0, 0, 0], Given::UnknownKind),
             (&[2, 0, 5, 1], Given::UnknownKind),
-            (&[3, 0, 7, 0, 0], Given::UnknownKind),
+            (&[3, 0, 8, 0, 0], Given::UnknownKind),
             (&[3, 0, 5, 0, 0], Given::BadLength),
             (&[6, 0, 3, 0, 5, 0, 0, 0], Given::BadLength),
             (&[7, 0, 3, 0, 5, 0, 0, 0, 16], Given::BadLength),
@@ -358,13 +426,81 @@ mod tests {
         ];
         for (bytes, given) in cases {
             assert_eq!(frame(bytes), Err(given), "{bytes:?}");
+            assert_eq!(plain(bytes), Err(given), "{bytes:?}");
+        }
+    }
+
+    /// 02 #107: the lengths that only kind 7 has, and what is inside, each before what comes after it.
+    #[test]
+    fn framing_of_kind_7_in_its_order() {
+        let filled = |head: &[u8], size: usize| [head, &vec![0; size - head.len()]].concat();
+        let cases = [
+            (vec![30, 0], Given::CutShort),
+            (vec![35, 0, 7], Given::CutShort),
+            (vec![30, 0, 7, 0], Given::CutShort),
+            (filled(&[35, 0, 7, 0], 36), Given::CutShort),
+            (vec![30, 0, 3, 0], Given::BadLength),
+            (filled(&[30, 0, 3, 0], 32), Given::BadLength),
+            (vec![35, 0, 9, 0], Given::BadLength),
+            (filled(&[35, 0, 7, 1], 37), Given::BadLength),
+            (vec![2, 0, 7, 0], Given::BadLength),
+            (vec![7, 0, 7, 0, 0, 0, 2, 0, 5], Given::BadLength),
+            (vec![7, 0, 7, 0, 0, 0], Given::CutShort),
+            (vec![29, 0, 7, 0], Given::CutShort),
+            (vec![8, 0, 7, 1, 0, 0, 2, 0, 5, 0], Given::UnknownKind),
+            (vec![9, 0, 7, 0, 0, 0, 2, 0, 5, 0, 0], Given::BadLength),
+            (vec![8, 0, 7, 0, 0, 0, 3, 0, 5, 0], Given::BadLength),
+            (vec![8, 0, 7, 0, 0, 0, 3, 0, 9, 0], Given::BadLength),
+            (vec![8, 0, 7, 0, 0, 0, 2, 1, 5, 0], Given::BadLength),
+            (vec![8, 0, 7, 0, 0, 0, 2, 0, 0, 0], Given::UnknownKind),
+            (vec![8, 0, 7, 0, 0, 0, 2, 0, 5, 1], Given::UnknownKind),
+            (vec![14, 0, 7, 0, 0, 0, 8, 0, 7, 0, 0, 0, 2, 0, 5, 0], Given::UnknownKind),
+            (vec![11, 0, 7, 0, 0, 0, 5, 0, 9, 0, 0, 0, 0], Given::UnknownKind),
+            (vec![11, 0, 7, 0, 0, 0, 5, 0, 6, 0, 0, 0, 0], Given::BadLength),
+            (vec![13, 0, 7, 0, 0, 0, 7, 0, 3, 0, 5, 0, 0, 0, 16], Given::BadLength),
+        ];
+        for (bytes, given) in cases {
+            assert_eq!(frame(&bytes), Err(given), "{bytes:?}");
+        }
+    }
+
+    /// A record of kind 7 is read as the one inside, at the slot that it names, whichever that is; its shortest and its longest.
+    #[test]
+    fn records_in_slots() {
+        let longest = [vec![29, 0, 3, 0, 5, 0, 0, 0, 112], vec![1; 22]].concat();
+        for inner in [vec![2, 0, 5, 0], longest] {
+            for slot in [0, 1, 63, 64, 256, 16_128, 65_535_u16] {
+                let head = [vec![inner.len() as u8 + 4, 0, 7, 0], slot.to_le_bytes().to_vec()].concat();
+                let bytes = [head, inner.clone(), vec![9; 3]].concat();
+                let framed = frame(&bytes).expect("a framed record");
+                assert_eq!((framed.named, framed.slot(), framed.size()), (Some(slot), slot, inner.len() + 6));
+                assert_eq!(framed.record, plain(&inner).expect("a plain record"));
+                assert_eq!(framed.record.bytes(), inner);
+            }
+            let framed = frame(&inner).expect("a framed record");
+            assert_eq!((framed.named, framed.slot(), framed.size()), (None, 0, inner.len()));
+        }
+    }
+
+    /// Where a plain record is asked for, one of kind 7 is of an unknown kind, and 30 is too long at once.
+    #[test]
+    fn plain_records_alone() {
+        let cases: [(&[u8], Given); 5] = [
+            (&[8, 0, 7, 0, 0, 0, 2, 0, 5, 0], Given::UnknownKind),
+            (&[2, 0, 7, 0], Given::UnknownKind),
+            (&[30, 0], Given::BadLength),
+            (&[30, 0, 7, 0], Given::BadLength),
+            (&[], Given::CutShort),
+        ];
+        for (bytes, given) in cases {
+            assert_eq!(plain(bytes), Err(given), "{bytes:?}");
         }
     }
 
     fn event(bytes: &[u8]) -> Result<Event, Ordinal> {
-        let record = frame(bytes).expect("a framed record");
-        assert_eq!(record.size(), bytes.len());
-        record.event()
+        let framed = frame(bytes).expect("a framed record");
+        assert_eq!(framed.size(), bytes.len());
+        framed.record.event()
     }
 
     /// Sixty seconds as 01 writes them, and the ends of the range.

@@ -66,8 +66,9 @@ pub fn of_entry(entry: &[u8]) -> Result<Option<(Component, Event)>, u8> {
     if file.is_empty() {
         return Err(cut_short);
     }
-    let record = events::frame(file).map_err(|given| given as u8)?;
-    let event = Event::of_record(&file[..record.size()]);
+    // An entry has a plain record: one of kind 7 is of an unknown kind here.
+    let record = events::plain(file).map_err(|given| given as u8)?;
+    let event = Event::of_record(record.bytes());
     Ok(match &event {
         Event::Message(message) => Some((Component::of_message(u16::from_le_bytes(*identifier), message), event)),
         _ => None,
