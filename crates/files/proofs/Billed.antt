@@ -18,19 +18,21 @@ use lib.Seq.{take-append-seam, drop-append-seam}
 use Rattle.text.specs.Text.{ascii}
 use Rattle.text.proofs.Cases.{yes-lt, no-lt, both-lt}
 use Rattle.rows.specs.Bill.{Step, line, originating}
-use Rattle.rows.specs.History.{history}
-use Rattle.rows.specs.Step.{unopenedCall}
+use Rattle.rows.specs.History.{run, history}
+use Rattle.rows.specs.Step.{stepOf, unopenedCall}
 use Rattle.rows.specs.declared.Call.{Call}
+use Rattle.rows.specs.declared.Event.{Event}
 use Rattle.board.specs.Row.{noSlot}
 use Rattle.rows.proofs.Opened.{Told, line-billed}
 use Rattle.rows.proofs.Whole.{Shows}
 use Rattle.files.specs.Fit.{longest, answers, leaves}
 use Rattle.files.specs.Lines.{numberedLine, metersText, lineText, recordText}
 use Rattle.files.specs.Listing.{namesSlots, listingOf}
+use Rattle.files.specs.Typed.{Entry}
 use Rattle.files.specs.Shown.{entriesOf, ownEvents, Shown, shownOf, shownText, AnswersEntry, RefusesRecord, billText, billedText}
 use Rattle.files.proofs.Eight.{listing-length, listing-eight}
 use Rattle.files.proofs.Same.{Fitted}
-use Rattle.files.proofs.Shown.{listing-shown, kth-shown, kth-call, kth-past}
+use Rattle.files.proofs.Shown.{listing-shown, kth-shown, kth-own, kth-call, kth-past, Last, last-own}
 
 -- ---- What a host gets
 
@@ -87,6 +89,9 @@ pub record Line (s : List ℕ) (k : ℕ) (x : Shown) : Type 0 where
   pub ordinal : x .ordinal ≡ k + 1
   -- the answer to the k-th entry; or, after all entries, the refusal of a record that cannot be read
   pub answer : AnswersEntry s k (x .slot) (x .answer) ⊎ RefusesRecord s k (x .slot) (x .answer)
+  -- an entry is answered by the call that its slot's own events before it reach, and by nothing else
+  pub own : (y : Entry) → getElem? (entriesOf s) k ≡ some y → x .slot < 64 →
+      x .answer ≡ stepOf (run unopenedCall (ownEvents (x .slot) (take k (entriesOf s)))) (y .event)
   -- where there is no such slot: 19 with an unopened call
   pub past : 64 ≤ x .slot → x .answer ≡ noSlot
   -- else its meters show the bill of that slot's own events up to it, from the latest accepted opening on (`line`, crates/rows/specs/Bill.antt;
@@ -115,7 +120,14 @@ billed-line s k x g =
     record {
       ordinal = i .0;
       answer = i .1;
+      own = λ y h u. kth-own s k (x .slot) (x .answer) u (i .1) y h;
       past = λ u. kth-past s k (x .slot) (x .answer) u (i .1);
       meters = λ u. told-line s k x u (i .1);
       text = λ f h u e. told-text (namesSlots s) x f h (subst (Told (x .answer .call)) e (told-line s k x u (i .1)));
     }
+
+-- Of the last record shown of a slot: its meters show the bill of all that slot's own events, from the latest accepted opening on.
+pub last-line-billed : (s : List ℕ) (k : ℕ) (x : Shown) → getElem? (shownOf s) k ≡ some x → x .slot < 64 → Last s k (x .slot) →
+    Told (x .answer .call) (line (history unopenedCall (ownEvents (x .slot) (entriesOf s))))
+last-line-billed s k x g u l =
+    subst (λ (es : List Event). Told (x .answer .call) (line (history unopenedCall es))) (last-own s k (x .slot) l) (billed-line s k x g .meters u)

@@ -10,7 +10,8 @@ use native.Mathlib.Nat.{add-zero, add-suc, zero-add}
 use native.Mathlib.Numerals.{add-one}
 use native.Mathlib.Omega.{arith}
 use lib.ListN.{length, take, getD, getElem?, length-append}
-use borrow.Author.Tests.{eq-eqb}
+use lib.Dec.{eqb}
+use borrow.Author.Tests.{eq-eqb, ne-eqb}
 use lib.Seq.{append-snoc, take-all}
 use Rattle.text.specs.Text.{ascii}
 use Rattle.text.proofs.Cases.{no-lt, yes-le, both-lt, both-le}
@@ -259,3 +260,57 @@ kth-call s k i o u (inr (n, g, l, m, p, q)) =
 pub kth-past : (s : List ℕ) (k i : ℕ) (o : Outcome) → 64 ≤ i → AnswersEntry s k i o ⊎ RefusesRecord s k i o → o ≡ noSlot
 kth-past s k i o u (inl (x, h, p, q)) = q ∙ past-63 (rowAt (take k (entriesOf s))) i (x .event) u .0
 kth-past s k i o u (inr (n, g, l, m, p, q)) = absurd (omega (arith, u, p))
+
+-- past the last entry there is none
+none-past : (xs : List Entry) (x : Entry) → getElem? xs (length xs) ≡ some x → ⊥
+none-past [] x h = none-some x h
+none-past (y ∷ xs) x h = none-past xs x h
+
+-- An entry is answered by the call that its slot's own events before it reach.
+pub kth-own : (s : List ℕ) (k i : ℕ) (o : Outcome) → i < 64 → AnswersEntry s k i o ⊎ RefusesRecord s k i o →
+    (y : Entry) → getElem? (entriesOf s) k ≡ some y → o ≡ stepOf (run unopenedCall (ownEvents i (take k (entriesOf s)))) (y .event)
+kth-own s k i o u (inl (x, h, p, q)) y g =
+    q ∙ slot-answer (take k (entriesOf s)) i (x .event) u
+    ∙ some-some (λ (z : Entry). stepOf (run unopenedCall (ownEvents i (take k (entriesOf s)))) (x .event) ≡ stepOf (run unopenedCall (ownEvents i (take k (entriesOf s)))) (z .event))
+    x y (sym h ∙ g) refl
+kth-own s k i o u (inr (n, a, b, l, m, q)) y g = absurd (none-past (entriesOf s) y (subst (λ (j : ℕ). getElem? (entriesOf s) j ≡ some y) l g))
+
+-- ---- The last record shown of a slot
+
+-- after the k-th no record is shown of the slot i
+abbrev pub Last : List ℕ → ℕ → ℕ → Type 0
+Last s k i = (j : ℕ) (y : Shown) → k < j → getElem? (shownOf s) j ≡ some y → y .slot ≡ i → ⊥
+
+-- each entry is shown, at its slot
+entry-shown : (before xs : List Entry) (ending : Ending) (j : ℕ) (x : Entry) → getElem? xs j ≡ some x →
+    (y : Shown) × (getElem? (shownAfter before xs ending) j ≡ some y) × (y .slot ≡ slotOf (x .acts))
+entry-shown before [] ending j x h = none-some x h
+entry-shown before (z ∷ xs) ending zero x h = (
+  record { ordinal = length before + 1; slot = slotOf (z .acts); answer = answerAt (rowAt before) (slotOf (z .acts)) (z .event) },
+  refl,
+  some-some (λ (w : Entry). slotOf (z .acts) ≡ slotOf (w .acts)) z x h refl,
+)
+entry-shown before (z ∷ xs) ending (suc j) x h = entry-shown (before ++ (z ∷ [])) xs ending j x h
+
+-- from a place on no entry acts at the slot
+abbrev Beyond : List Entry → ℕ → ℕ → Type 0
+Beyond xs k i = (j : ℕ) (x : Entry) → k ≤ j → getElem? xs j ≡ some x → slotOf (x .acts) ≡ i → ⊥
+
+own-taken : (i : ℕ) (xs : List Entry) (k : ℕ) → Beyond xs k i → ownEvents i (take k xs) ≡ ownEvents i xs
+unfolding ownEvents
+own-taken i [] zero h = refl
+own-taken i [] (suc k) h = refl
+own-taken i (x ∷ xs) zero h =
+    own-taken i xs zero (λ j y g e. h (suc j) y (omega arith) e)
+    ∙ ap (λ (b : Bool). pick b (x .event ∷ ownOf i (namedAll xs)) (ownOf i (namedAll xs))) (sym (ne-eqb (slotOf (x .acts)) i (h 0 x (omega arith) refl)))
+own-taken i (x ∷ xs) (suc k) h =
+    ap (λ (es : List Event). pick (eqb (slotOf (x .acts)) i) (x .event ∷ es) es) (own-taken i xs k (λ j y g e. h (suc j) y (omega (arith, g)) e))
+
+-- so the slot's own events up to its last record are all that it has
+pub last-own : (s : List ℕ) (k i : ℕ) → Last s k i → ownEvents i (take (k + 1) (entriesOf s)) ≡ ownEvents i (entriesOf s)
+unfolding shownOf
+last-own s k i l =
+    own-taken i (entriesOf s) (k + 1)
+    (λ j x g h e.
+    let y = entry-shown [] (entriesOf s) (contentsOf s .ending) j x h in
+    l j (y .0) (omega (arith, g)) (y .1) (y .2 ∙ e))

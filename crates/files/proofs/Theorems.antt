@@ -15,7 +15,8 @@ use Prim.Native.Nat.{ℕ, _+_, _-_, _≤_, _<_}
 use native.Mathlib.Omega.{arith}
 use borrow.Author.Tests.{eqb-false}
 use lib.ListN.{length, take, drop, getElem?}
-use Rattle.rows.specs.History.{run}
+use Rattle.rows.specs.Bill.{line}
+use Rattle.rows.specs.History.{run, history}
 use Rattle.rows.specs.Step.{unopenedCall, stepOf}
 use Rattle.rows.specs.Telephone.{sameNumber}
 use Rattle.rows.specs.Valid.{numberThere, eventOk}
@@ -26,6 +27,7 @@ use Rattle.rows.specs.declared.Event.{Event}
 use Rattle.rows.specs.declared.Number.{Number}
 use Rattle.text.specs.Choose.{ifSo}
 use Rattle.text.specs.Value.{NoDigit}
+use Rattle.rows.proofs.Opened.{Told}
 use Rattle.rows.proofs.Payers.{ten-for-the-unpaid, paid-on}
 use Rattle.rows.proofs.Stays.{nine-exactly, calls-stay, unopened-valid}
 use Rattle.files.specs.Bodies.{numberValues, valuesOf, recordOf, entryOf, readAt}
@@ -35,7 +37,7 @@ use Rattle.files.specs.Fit.{answers}
 use Rattle.files.specs.Listing.{isSlot, namesSlots, listingOf}
 use Rattle.files.specs.Lines.{actionText}
 use Rattle.files.specs.Messages.{numberText}
-use Rattle.files.specs.Shown.{whole, contentsOf, entriesOf, Shown, shownOf, eventsIn, oneListing}
+use Rattle.files.specs.Shown.{whole, contentsOf, entriesOf, ownEvents, Shown, shownOf, eventsIn, oneListing}
 use Rattle.files.specs.Typed.{AllBytes, TypedNumber, Typed, TypedWhere, Entry, Writable, fileOf}
 use Rattle.files.specs.Words.{numberWord}
 use Rattle.files.specs.Write.{numberOf, bytesWritten, givesBack, numberWith, messageWith}
@@ -56,6 +58,7 @@ use Rattle.files.proofs.HostWrites
 use Rattle.files.proofs.HostWrites.{Writes, Hands}
 use Rattle.files.proofs.OneCall
 use Rattle.files.proofs.Same.{Fitted, answeredOf, heldOf, Wrote, Numbered, HandedOver}
+use Rattle.files.proofs.Shown.{Last}
 use Rattle.files.proofs.Slots
 use Rattle.files.proofs.TwoRooms
 
@@ -67,9 +70,14 @@ pub host-gets : (s old : List ℕ) (n : ℕ) (new : List ℕ) → Fitted s (list
 host-gets = Billed.host-gets
 
 -- The k-th record shown (k from 0): its ordinal, the answer of its slot to its event, and meters that are what each payer owes on the bill of
--- that slot's own events so far, from its latest accepted opening on. The last record shown of a slot is one of them.
+-- that slot's own events so far, from its latest accepted opening on; so of the last record shown of a slot (`Last`) ..
 pub billed-line : (s : List ℕ) (k : ℕ) (x : Shown) → getElem? (shownOf s) k ≡ some x → Line s k x
 billed-line = Billed.billed-line
+
+-- .. of which the meters are what the bill of all that slot's own events says.
+pub last-line-billed : (s : List ℕ) (k : ℕ) (x : Shown) → getElem? (shownOf s) k ≡ some x → x .slot < 64 → Last s k (x .slot) →
+    Told (x .answer .call) (line (history unopenedCall (ownEvents (x .slot) (entriesOf s))))
+last-line-billed = Billed.last-line-billed
 
 -- ---- The board (02 #107)
 
