@@ -99,6 +99,12 @@ for page in README.md man/*.1; do
             if (!($3 in phase)) told("phase", $3)
             if (!($4 in state)) told("state", $4)
         }
+        # the same with a slot after the ordinal
+        /^ *[0-9]+ [0-9]+ [0-9]+ [A-Z-]+ [A-Z-]+ [0-9]+ [0-9]+ [0-9]+$/ {
+            if (!($3 in number)) told("number given back", $3)
+            if (!($4 in phase)) told("phase", $4)
+            if (!($5 in state)) told("state", $5)
+        }
         /^ *> [A-Z]/ { if (!(($2) in action) && !(($2 " " $3) in action)) told("action", $2 " " $3) }
         { for (i = 1; i < NF; i++) {
             after = $(i + 1); gsub(/[^0-9]+$/, "", after)

@@ -415,8 +415,8 @@ static void check_openings(void)
             after = bad ? place : &anew;
         }
         if (line.number != wanted || !is_at(&line, after)) {
-            printf("classes: %s, %s %s, an opening: not %u, or not %s %s\n", roles[role].name, place->phase, place->state, wanted, after->phase,
-                   after->state);
+            printf("classes: %s, %s %s, an opening: not %u, or not %s %s\n", roles[role].name, place->phase, place->state, wanted,
+                   after->phase, after->state);
             exit(1);
         }
     }

@@ -23,6 +23,13 @@ extern "C" {
 #define REV_LONGEST 65536u
 
 /*
+ * Room for the listing and for the dump of any file: 16 bytes of text for each byte of it. The shortest record has 4 bytes, and a line
+ * without actions at most 64; longer records have room for the actions of their lines, as far as a call can repeat them, and an opening for
+ * those that it cannot. So with this much room REV_TOO_LONG says that the file is too long. Counted and tested, not proved.
+ */
+#define REV_ROOM 1048576u
+
+/*
  * Given back by the listing and the dump in the place of a length, and never a length itself: every listing has at least 12 bytes, every
  * dump 10. Given back by a writer, which gives no length, where the record has more bytes than there is room; and by rev_read_parameter and
  * rev_write_parameter, where what they would write has more.
@@ -81,7 +88,7 @@ extern "C" {
  *   file_len > REV_LONGEST    the file is too long, for any buffer
  *   else                      the text has more than out_len bytes: try again with a larger buffer
  *
- * No bound on a text's length is promised. A host that wants every text doubles its buffer until the text fits (example.c).
+ * A host that wants every text lends REV_ROOM bytes, or doubles its buffer until the text fits (example.c).
  *
  * This holds for any bytes and any lengths, 0 among them. What they ask:
  *
@@ -90,7 +97,7 @@ extern "C" {
  * - The two do not overlap.
  *
  * They keep nothing between calls, allocate nothing and call nothing: any number of threads may call them at once, each with its own
- * `out`. The same file may be lent to all.
+ * `out`. The same file may be lent to all. Of stack they take 7 KiB at most (measured): the listing's row of calls.
  *
  * The promise is proved of crates/files/src/listing.rt and dump.rt. That these declarations fit them is tested (test.c) and not proved.
  */
@@ -199,8 +206,8 @@ bool rev_same_number(bool international, uint8_t count, uint64_t value, bool oth
  * rev_write_parameter reads one entry in the entry_len bytes at `entry`, and writes the whole parameter with that component to the out_len
  * bytes at `out`. What follows the entry is not looked at. It gives
  *
- *   5, 6, 7          the record cannot be read, for the reasons of an event file (docs/FORMAT.md); 5 also where there are not two bytes, or
- *                    none after them
+ *   5, 6, 7          the record cannot be read, for the reasons of an event file (docs/FORMAT.md) of plain records alone: 7 for one of kind
+ *                    7; 5 also where there are not two bytes, or none after them
  *   REV_BAD_FIELD    the record is of another kind, a field of it is out of its range, or its component cannot be written: component 0; an
  *                    error that is none of 4 to 12; a part that this component has no place for; a Duration above 921,599 seconds; an
  *                    identifier above 256, or none but in a reject. The rest is the ordinal of the first field that is to blame, counted

@@ -449,9 +449,10 @@ static int slots_read_back(void)
         uint16_t slot;
         const uint8_t *record;
     } steps[] = {{63, originating}, {63, basic}, {63, destination}, {63, clear}, {63, destination}, {REV_SLOTS, originating}, {0, expiry}};
-    static const char dump[] = "RECORDS 8\n1 0 OPENING originating interaction 5550100\n2 15 SLOT 63 OPENING originating interaction 5550100\n"
-                               "3 36 SLOT 63 REQUEST BASIC 5550100\n4 56 SLOT 63 OPENING destination interaction +5550100\n"
-                               "5 77 SLOT 63 ACCESS CLEAR 0\n6 89 SLOT 63 OPENING destination interaction +5550100\n"
+    static const char dump[] = "RECORDS 8\n1 0 OPENING originating interaction 5550100\n"
+                               "2 15 SLOT 63 OPENING originating interaction 5550100\n3 36 SLOT 63 REQUEST BASIC 5550100\n"
+                               "4 56 SLOT 63 OPENING destination interaction +5550100\n5 77 SLOT 63 ACCESS CLEAR 0\n"
+                               "6 89 SLOT 63 OPENING destination interaction +5550100\n"
                                "7 110 SLOT 64 OPENING originating interaction 5550100\n8 131 SLOT 0 EXPIRY\n";
     static const char listing[] = "REV 1\n1 0 0 NULL IDLE 0 0 0\n2 63 0 NULL IDLE 0 0 0\n3 63 0 SETUP IDLE 0 0 0\n> IAM\n"
                                   "4 63 20 SETUP IDLE 0 0 0\n5 63 0 CLEARED IDLE 0 0 0\n> REL 16\n6 63 0 NULL IDLE 0 0 0\n"
@@ -464,6 +465,44 @@ static int slots_read_back(void)
         length = add_in_slot(file, length, steps[i].slot, steps[i].record);
     if (length == 0 || !is_text(rev_dump, file, length, dump) || !is_text(rev_listing, file, length, listing)) {
         printf("records in slots are not read back\n");
+        return 0;
+    }
+    return 1;
+}
+
+/* ---- Room for every text ---- */
+
+/*
+ * The longest lines without actions, again and again: two meters of eight digits, and slots that the last record alone brings. They have
+ * room in REV_ROOM, and not in half of it.
+ */
+static int room_is_enough(void)
+{
+    static const uint8_t opening[] = {13, 0, 1, 0, 0, 8, HOME_BYTES}, basic[] = {12, 0, 2, 0, 0, HOME_BYTES},
+                         answer[] = {7, 0, 3, 0, 2, 0, 0, 0, 0}, day[] = {6, 0, 6, 0, 0x80, 0x51, 1, 0},
+                         rest[] = {12, 0, 2, 0, 2, 0, 0, 0, 0, 0, 0, 0, 0, 0}, accepted[] = {7, 0, 3, 0, 5, 0, 2, 2, 0},
+                         expiry[] = {2, 0, 5, 0}, elsewhere[] = {8, 0, 7, 0, REV_SLOTS, 0, 2, 0, 5, 0};
+    enum { DAYS = 116 };
+    static uint8_t file[REV_LONGEST], text[REV_ROOM];
+    size_t length = 0, given;
+
+#define ADD(record) (memcpy(file + length, record, sizeof(record)), length += sizeof(record))
+    ADD(opening);
+    ADD(basic);
+    ADD(answer);
+    for (int i = 0; i < DAYS; i++)
+        ADD(day);
+    ADD(rest);
+    ADD(accepted);
+    for (int i = 0; i < DAYS; i++)
+        ADD(day);
+    while (length + sizeof expiry + sizeof elsewhere <= sizeof file)
+        ADD(expiry);
+    ADD(elsewhere);
+#undef ADD
+    given = rev_listing(file, length, text, sizeof text);
+    if (given == REV_TOO_LONG || given <= sizeof text / 2) {
+        printf("REV_ROOM is too little or far too much: %zu\n", given);
         return 0;
     }
     return 1;
@@ -682,7 +721,7 @@ int main(int argc, char **argv)
     if (!kept("a file of no bytes", lend(pages, bytes, 0), 0) ||
         !kept("a file too long by a byte", lend(pages, bytes, sizeof bytes), sizeof bytes))
         return 1;
-    if (!writers_keep() || !numbers_read_back() || !slots_keep(pages) || !slots_read_back() || !same_numbers_are_told() ||
+    if (!writers_keep() || !numbers_read_back() || !slots_keep(pages) || !slots_read_back() || !room_is_enough() || !same_numbers_are_told() ||
         !parameters_keep(pages))
         return 1;
     snprintf(version, sizeof version, "REV %d\n", REV_VERSION);

@@ -6,7 +6,6 @@ use mathlib.Core.List.{List, [], _∷_}
 use mathlib.Core.Option.{Option, none, some}
 use Prim.Native.Nat.{ℕ, zero, suc, _≤_, _<_}
 use native.Mathlib.Nat.{not-suc-le-zero, le-of-suc-le-suc}
-use native.Mathlib.Omega.{arith}
 use lib.Dec.{ltb}
 use lib.ListN.{length, getD, getElem?, set}
 use borrow.Author.Tests.{ltb-true, lt-ltb, le-ltb}
@@ -193,17 +192,3 @@ pub either-order : (cs : List Call) (i j : ℕ) (e f : Event) → (i ≡ j → �
     × (answerAt (rowAfter cs j f) i e ≡ answerAt cs i e)
     × (answerAt (rowAfter cs i e) j f ≡ answerAt cs j f)
 either-order cs i j e f n = (rows-agree cs i j e f n, answer-stays cs j i f e (λ k. n (sym k)), answer-stays cs i j e f n)
-
--- ---- A row of 64 calls, as an array holds it
-
-pub answer-of-64 : (cs : List Call) (i : ℕ) (e : Event) (d : Call) → length cs ≡ slots →
-    answerAt cs i e ≡ pick (ltb i slots) (stepOf (getD cs i d) e) noSlot
-answer-of-64 cs i e d l = by (ltb i slots) refl
-  where
-    by : (b : Bool) → ltb i slots ≡ b → pick b (answerIn cs i e) noSlot ≡ pick b (stepOf (getD cs i d) e) noSlot
-    by true t = answers cs i e ∙ ap (λ (o : Option Call). answerBy o e) (at-place cs i d (omega (arith, l, ltb-true i slots t)))
-    by false t = refl
-
-pub row-of-64 : (cs : List Call) (i : ℕ) (e : Event) (d : Call) → length cs ≡ slots → i < slots →
-    rowAfter cs i e ≡ set cs i (stepOf (getD cs i d) e .call)
-row-of-64 cs i e d l s = row-is cs i e (getD cs i d) s (at-place cs i d (omega (arith, l, s)))

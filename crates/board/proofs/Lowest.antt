@@ -12,14 +12,19 @@ use lib.Dec.{eqb}
 use lib.ListN.{length, getElem?, set, replicate, length-set, length-replicate}
 use Rattle.rows.specs.Bill.{pick}
 use Rattle.rows.specs.Step.{unopenedCall, freeOf}
+use Rattle.rows.specs.Valid.{eventOk}
 use Rattle.rows.specs.declared.Call.{Call}
+use Rattle.rows.specs.declared.Event.the-variants.{Opening}
+use Rattle.rows.specs.declared.Number.{Number}
+use Rattle.rows.specs.declared.Outcome.{Outcome}
+use Rattle.rows.proofs.Anew.{free-exactly}
 use Rattle.rows.proofs.Truth.{differ}
 use Rattle.board.specs.Numbers.{slots}
 use Rattle.board.specs.Promises.{FreeAt, LowestAt, NoneFree, Matters, callInUse, allInUse, freedAt}
-use Rattle.board.specs.Row.{freeNumber, freeFrom, lowestFree}
+use Rattle.board.specs.Row.{answerAt, freeNumber, freeFrom, lowestFree}
 use Rattle.board.specs.declared.Free.{Free}
 use Rattle.board.specs.declared.Free.the-variants.{At, Nowhere}
-use Rattle.board.proofs.Laws.{some-is, none-is-not}
+use Rattle.board.proofs.Laws.{some-is, none-is-not, answer-is}
 
 abbrev found : Free → Bool
 found (At i) = true
@@ -110,9 +115,6 @@ nowhere-exactly cs = (
   λ h. by-answer (lowestFree cs) (ap freeNumber) (λ m e. absurd (h m (lowest-at cs m e .slot) (lowest-at cs m e .free))),
 )
 
-pub none-found : (cs : List Call) → (lowestFree cs ≡ Nowhere) ↔ NoneFree cs
-none-found cs = (none-free slots 0 cs, λ h. number-nowhere (lowestFree cs) (nowhere-exactly cs .1 h))
-
 -- of two lowest places each is the other
 one-lowest : (cs : List Call) (i m : ℕ) → LowestAt cs i → LowestAt cs m → m ≡ i
 one-lowest cs i m a b = omega (arith, not-below, not-above)
@@ -189,3 +191,11 @@ every-slot-asked i s = (all-in-use, freed-at i s, differs)
           alike = λ j n. set-other allInUse i j unopenedCall n;
           unlike = λ e. differ (ap found (sym (sym (freed-at i s) ∙ e ∙ all-in-use)));
         }
+
+-- the slot found is one that an opening takes
+pub lowest-takes-opening : (cs : List Call) (i r f : ℕ) (n : Number) → lowestFree cs ≡ At i → eventOk (Opening r f n) ≡ true →
+    answerAt cs i (Opening r f n) .number ≡ 0
+lowest-takes-opening cs i r f n h k =
+    let l = lowest-exactly cs i .0 h in
+    let free = l .free in
+    ap (λ (o : Outcome). o .number) (answer-is cs i (Opening r f n) (free .call) (l .slot) (free .there)) ∙ free-exactly (free .call) r f n k .0 (free .free)

@@ -9,7 +9,7 @@ use Prim.Native.Nat.{ℕ, zero, suc, _≤_, _<_}
 use native.Mathlib.Nat.{not-suc-le-zero, le-of-suc-le-suc}
 use native.Mathlib.Omega.{arith}
 use lib.Dec.{eqb, ltb}
-use lib.ListN.{length, getD, getElem?, replicate, length-replicate}
+use lib.ListN.{length, getD, getElem?, replicate}
 use borrow.Author.Tests.{ltb-true, ltb-false, eqb-true, eqb-false}
 use Rattle.rows.specs.Bill.{pick, Step}
 use Rattle.rows.specs.History.{run, written, history}
@@ -102,10 +102,6 @@ own-append i (x ∷ xs) ys = by (eqb (x .slot) i) (own-append i xs ys)
     by false h = h
 
 -- ---- The program's row
-
-pub empty-length : length emptyRow ≡ slots
-unfolding emptyRow
-empty-length = length-replicate slots unopenedCall
 
 repeated : (n i : ℕ) (c : Call) → i < n → getElem? (replicate n c) i ≡ some c
 repeated zero i c h = absurd (not-suc-le-zero h)

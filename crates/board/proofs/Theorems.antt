@@ -10,13 +10,14 @@ use mathlib.Core.List.{List, []}
 use mathlib.Core.Logic.{_↔_}
 use mathlib.Core.Option.{some}
 use Prim.Native.Nat.{ℕ, _≤_, _<_, zero-le}
-use lib.Dec.{ltb}
-use lib.ListN.{length, getD, getElem?, set}
-use Rattle.rows.specs.Bill.{pick}
+use lib.ListN.{length, getElem?, set}
 use Rattle.rows.specs.History.{run, history}
 use Rattle.rows.specs.Step.{unopenedCall, freeOf, stepOf}
+use Rattle.rows.specs.Valid.{eventOk}
 use Rattle.rows.specs.declared.Call.{Call}
 use Rattle.rows.specs.declared.Event.{Event}
+use Rattle.rows.specs.declared.Event.the-variants.{Opening}
+use Rattle.rows.specs.declared.Number.{Number}
 use Rattle.board.specs.Promises.{LowestAt, NoneFree, Matters, allInUse, freedAt}
 use Rattle.board.specs.Row.{noSlot, answerAt, rowAfter, freeNumber, lowestFree, Named, runRow, ownOf, stepsAt, emptyRow}
 use Rattle.board.specs.declared.Free.the-variants.{At, Nowhere}
@@ -89,6 +90,11 @@ lowest-exactly = Lowest.lowest-exactly
 pub nowhere-exactly : (cs : List Call) → (freeNumber (lowestFree cs) ≡ 21) ↔ NoneFree cs
 nowhere-exactly = Lowest.nowhere-exactly
 
+-- The slot found takes an opening: one with its fields in range is accepted there.
+pub lowest-takes-opening : (cs : List Call) (i r f : ℕ) (n : Number) → lowestFree cs ≡ At i → eventOk (Opening r f n) ≡ true →
+    answerAt cs i (Opening r f n) .number ≡ 0
+lowest-takes-opening = Lowest.lowest-takes-opening
+
 -- Where none is free, whichever slot gets a free call is the answer ..
 pub freed-found : (cs : List Call) (i : ℕ) (c : Call) → lowestFree cs ≡ Nowhere → i < 64 → i < length cs → freeOf c ≡ true →
     lowestFree (set cs i c) ≡ At i
@@ -127,14 +133,3 @@ past-stays = Runs.past-stays
 pub program-slots : (xs : List Named) (i : ℕ) → i < 64 →
     (getElem? (runRow emptyRow xs) i ≡ some (run unopenedCall (ownOf i xs))) × (stepsAt i emptyRow xs ≡ history unopenedCall (ownOf i xs))
 program-slots = Runs.program-slots
-
--- ---- A row of 64 calls, as the program's own has: the call in the slot is read and stored as an array's element is, d standing for what
--- is read past the end
-
-pub answer-of-64 : (cs : List Call) (i : ℕ) (e : Event) (d : Call) → length cs ≡ 64 →
-    answerAt cs i e ≡ pick (ltb i 64) (stepOf (getD cs i d) e) noSlot
-answer-of-64 = Laws.answer-of-64
-
-pub row-of-64 : (cs : List Call) (i : ℕ) (e : Event) (d : Call) → length cs ≡ 64 → i < 64 →
-    rowAfter cs i e ≡ set cs i (stepOf (getD cs i d) e .call)
-row-of-64 = Laws.row-of-64

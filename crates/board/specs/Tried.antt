@@ -6,7 +6,7 @@ use mathlib.Core.List.{List, [], _∷_}
 use Prim.Native.Nat.{ℕ}
 use lib.ListN.{replicate}
 use Rattle.rows.specs.History.{run}
-use Rattle.rows.specs.Perform.{at}
+use Rattle.rows.specs.Perform.{at, refusedOf}
 use Rattle.rows.specs.Step.{unopenedCall}
 use Rattle.rows.specs.declared.Call.{Call}
 use Rattle.rows.specs.declared.Event.{Event}
@@ -67,7 +67,7 @@ pub lower-of-two : lowestFree (callInUse ∷ unopenedCall ∷ unopenedCall ∷ [
 lower-of-two = refl
 
 -- past the end of a row of three; and past 63, where the row goes on
-pub three-past : (answerAt three 3 opens ≡ noSlot) × (rowAfter three 3 opens ≡ three)
+pub three-past : (answerAt three 3 opens ≡ refusedOf 19 unopenedCall) × (rowAfter three 3 opens ≡ three)
 three-past = (refl, refl)
 
 abbrev longer : List Call

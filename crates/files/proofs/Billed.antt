@@ -96,7 +96,7 @@ pub record Line (s : List ℕ) (k : ℕ) (x : Shown) : Type 0 where
   pub past : 64 ≤ x .slot → x .answer ≡ noSlot
   -- else its meters show the bill of that slot's own events up to it, from the latest accepted opening on (`line`, crates/rows/specs/Bill.antt;
   -- `Told`, crates/rows/proofs/Opened.antt): of an originating call each meter is what its payer owes, and they add up to the answered seconds;
-  -- before an opening the call is as at first; of a destination's nothing is told
+  -- before an opening the call is as at first; of a destination's the caller's is 0, and the others add up to the seconds that its steps say
   pub meters : x .slot < 64 → Told (x .answer .call) (line (ownHistory s k (x .slot)))
   -- so where an originating call was opened with the flags f, and h are the steps after that opening, its text is written from the bill
   pub text : (f : ℕ) (h : List Step) → x .slot < 64 → line (ownHistory s k (x .slot)) ≡ originating f h →

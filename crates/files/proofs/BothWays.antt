@@ -738,15 +738,6 @@ pub first-reads-back : (w : Where) (e : Event) → eventOk e ≡ true → Typed 
     → readAt (entryOf w e ++ q) 0 ≡ Read.Got w e (length (entryOf w e))
 first-reads-back w e k t u q = written-reads-back w e k t u [] q ∙ ap (Read.Got w e) (zero-add (length (entryOf w e)))
 
--- And of a plain record where plain ones alone are read.
-pub plain-reads-back : (e : Event) → eventOk e ≡ true → Typed e → (p q : List ℕ)
-    → plainAt (p ++ recordOf e ++ q) (length p) ≡ Read.Got Plain e (length p + length (recordOf e))
-plain-reads-back e k t p q = read-is-found (p ++ recordOf e ++ q) (length p) _ Plain e (read-between Plain e k t tt p q)
-
-pub plain-first-reads-back : (e : Event) → eventOk e ≡ true → Typed e → (q : List ℕ)
-    → plainAt (recordOf e ++ q) 0 ≡ Read.Got Plain e (length (recordOf e))
-plain-first-reads-back e k t q = read-is-found (recordOf e ++ q) 0 _ Plain e (first-reads-back Plain e k t tt q)
-
 -- Where a record of a file of bytes is read, in range or not, the bytes that stand there are the record of the event that was read.
 pub read-writes-back : (s : List ℕ) → AllBytes s → (at next : ℕ) (w : Where) (e : Event) → readAt s at ≡ Read.Got w e next
     → (entryOf w e ≡ take (next - at) (drop at s)) × (next ≡ at + length (entryOf w e))

@@ -19,7 +19,7 @@ use prog.Routine.{Routine}
 use prog.Wp.{Heap}
 use Rattle.rows.specs.Telephone.{sameNumber}
 use Rattle.rows.specs.declared.Event.the-variants.{Opening, Ask, FromAccess, Expiry, Time}
-use Rattle.files.specs.Bodies.{readAt}
+use Rattle.files.specs.Bodies.{plainAt, readAt}
 use Rattle.files.specs.Dump.{dumpOf}
 use Rattle.files.specs.Listing.{listingOf}
 use Rattle.files.specs.Places.{placesOf}
@@ -27,6 +27,7 @@ use Rattle.files.specs.Words.{Says}
 use Rattle.files.specs.Write.{numberWith, messageWith}
 use Rattle.files.specs.declared.Where.the-variants.{Plain, Slot}
 use Rattle.files.proofs.Same.{Fitted, Opened, Moved, Wrote, Numbered, HandedOver}
+use Rattle.files.proofs.bodies.plain_at as plain-at
 use Rattle.files.proofs.bodies.read_at as read-at
 use Rattle.files.proofs.dump.rev_dump as rev-dump
 use Rattle.files.proofs.lent.found_at as found-at
@@ -87,6 +88,10 @@ module _ {M : Type 1} (𝓤 : URA M) (H : Heap 𝓤) (A : Atoms 𝓤) (mem : Mem
   pub read-at-says : (κs : Lfts 1) (a : Args read-at.signature κs) →
       read-at.spec 𝓤 H A mem run κs a ≡ Promises read-at.ended κs a (λ f last. f ≡ readAt (now (a .0)) (a .1 .0))
   read-at-says κs a = refl
+
+  pub plain-at-says : (κs : Lfts 1) (a : Args plain-at.signature κs) →
+      plain-at.spec 𝓤 H A mem run κs a ≡ Promises plain-at.ended κs a (λ f last. f ≡ plainAt (now (a .0)) (a .1 .0))
+  plain-at-says κs a = refl
 
   pub found-at-says : (κs : Lfts 1) (a : Args found-at.signature κs) →
       found-at.spec 𝓤 H A mem run κs a ≡ Promises found-at.ended κs a (λ f last. f ≡ readAt (now (a .0)) (a .1 .0))

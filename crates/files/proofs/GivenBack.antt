@@ -39,4 +39,4 @@ numbers-hold P a b c d each s k x h = by (kth-shown s k x h .1)
 
     by : AnswersEntry s k (x .slot) (x .answer) ⊎ RefusesRecord s k (x .slot) (x .answer) → P (x .answer .number)
     by (inl (y, g, p, q)) = subst (λ (o : Outcome). P (o .number)) (sym q) (at-slot (x .slot) (take k (entriesOf s)) (y .event))
-    by (inr (n, p, q, l, m, r)) = subst (λ (o : Outcome). P (o .number)) (sym r) (five-to-seven n p q)
+    by (inr (n, p, q, w, l, m, r)) = subst (λ (o : Outcome). P (o .number)) (sym r) (five-to-seven n p q)

@@ -4,11 +4,11 @@
 use mathlib.Core.Path.{_≡_, refl, sym, ap, subst, _∙_}
 use mathlib.Core.Bool.{Bool}
 use mathlib.Core.List.{List, [], _∷_, _++_}
-use Prim.Native.Nat.{ℕ, zero, suc, _+_, _≤_, _<_}
-use native.Mathlib.Nat.{not-suc-le-zero, le-of-suc-le-suc}
+use Prim.Native.Nat.{ℕ, _+_, _≤_, _<_}
 use native.Mathlib.Omega.{arith}
 use lib.Dec.{ltb}
-use lib.ListN.{length, getD, set, length-append, length-set}
+use lib.ListN.{length, getD, set, length-append, length-set, List·getD-append}
+use lib.Seq.{set-getD, set-set, getD-set-same, set-append-left, getD-append-seam}
 use borrow.Author.Tests.{lt-ltb, le-ltb}
 use Rattle.text.proofs.Cases.{yes-lt, no-lt, both-lt}
 use Rattle.rows.specs.Perform.{refusedOf}
@@ -21,38 +21,6 @@ use Rattle.board.specs.Row.{answerAt, rowAfter}
 use Rattle.board.proofs.Laws.{at-place, answer-is, row-is, past-63}
 use Rattle.files.specs.Listing.{slotOf, slotFound, answerOf, answerBy, rowBy, indexOf}
 use Rattle.files.specs.declared.Read.{Read}
-
--- ---- an element put in place
-
-module _ {A : Type 0} where
-  put-own : (xs : List A) (i : ℕ) (d : A) → set xs i (getD xs i d) ≡ xs
-  put-own [] i d = refl
-  put-own (x ∷ xs) zero d = refl
-  put-own (x ∷ xs) (suc i) d = ap (λ (l : List A). x ∷ l) (put-own xs i d)
-
-  put-twice : (xs : List A) (i : ℕ) (x y : A) → set (set xs i x) i y ≡ set xs i y
-  put-twice [] i x y = refl
-  put-twice (z ∷ xs) zero x y = refl
-  put-twice (z ∷ xs) (suc i) x y = ap (λ (l : List A). z ∷ l) (put-twice xs i x y)
-
-  got-put : (xs : List A) (i : ℕ) (x d : A) → i < length xs → getD (set xs i x) i d ≡ x
-  got-put [] i x d h = absurd (not-suc-le-zero h)
-  got-put (z ∷ xs) zero x d h = refl
-  got-put (z ∷ xs) (suc i) x d h = got-put xs i x d (le-of-suc-le-suc h)
-
-  got-front : (xs ys : List A) (i : ℕ) (d : A) → i < length xs → getD (xs ++ ys) i d ≡ getD xs i d
-  got-front [] ys i d h = absurd (not-suc-le-zero h)
-  got-front (x ∷ xs) ys zero d h = refl
-  got-front (x ∷ xs) ys (suc i) d h = got-front xs ys i d (le-of-suc-le-suc h)
-
-  put-front : (xs ys : List A) (i : ℕ) (x : A) → i < length xs → set (xs ++ ys) i x ≡ set xs i x ++ ys
-  put-front [] ys i x h = absurd (not-suc-le-zero h)
-  put-front (z ∷ xs) ys zero x h = refl
-  put-front (z ∷ xs) ys (suc i) x h = ap (λ (l : List A). z ∷ l) (put-front xs ys i x (le-of-suc-le-suc h))
-
-  got-last : (xs : List A) (y d : A) → getD (xs ++ (y ∷ [])) (length xs) d ≡ y
-  got-last [] y d = refl
-  got-last (x ∷ xs) y d = got-last xs y d
 
 -- ---- what is held
 
@@ -78,12 +46,12 @@ array-length {reached} {row} {held} {call} h =
 pub holds-other : {reached row : List Call} {held : ℕ} {call : Call} → Holds reached row held call → (index : ℕ) (d : Call) → index < 65
     → Holds reached (set row held call) index (getD (set row held call) index d)
 holds-other {reached} {row} {held} {call} h index d i =
-    record { slots = h .slots; kept = put-own (set row held call) index d ∙ h .kept; there = i }
+    record { slots = h .slots; kept = set-getD (set row held call) index d ∙ h .kept; there = i }
 
 -- the call that is held is the row's at that place
 pub holds-call : {reached row : List Call} {held : ℕ} {call : Call} → Holds reached row held call → (d : Call) → call ≡ getD (withLast reached) held d
 holds-call {reached} {row} {held} {call} h d =
-    sym (got-put row held call d (omega (arith, h .there, array-length h))) ∙ ap (λ (l : List Call). getD l held d) (h .kept)
+    sym (getD-set-same row held call d (omega (arith, h .there, array-length h))) ∙ ap (λ (l : List Call). getD l held d) (h .kept)
 
 -- a newer one of the same place
 newer : {reached row : List Call} {held : ℕ} {call : Call} → Holds reached row held call → (c : Call) (reached′ : List Call)
@@ -91,7 +59,7 @@ newer : {reached row : List Call} {held : ℕ} {call : Call} → Holds reached r
 newer {reached} {row} {held} {call} h c reached′ e k =
     record {
       slots = k;
-      kept = sym (put-twice row held call c) ∙ ap (λ (l : List Call). set l held c) (h .kept) ∙ e;
+      kept = sym (set-set row held call c) ∙ ap (λ (l : List Call). set l held c) (h .kept) ∙ e;
       there = h .there;
     }
 
@@ -116,7 +84,7 @@ module _ {reached row : List Call} {held : ℕ} {call : Call} (h : Holds reached
   refused-first n o e f =
       let c : call ≡ getD reached 0 unopenedCall =
       holds-call h unopenedCall ∙ ap (λ (i : ℕ). getD (withLast reached) i unopenedCall) (e ∙ index-below 0 (omega arith))
-      ∙ got-front reached (unopenedCall ∷ []) 0 unopenedCall (omega (arith, h .slots)) in
+      ∙ List·getD-append reached (unopenedCall ∷ []) unopenedCall 0 (omega (arith, h .slots)) in
       (f ∙ ap (refusedOf n) c, same-call o (ap (λ (x : Outcome). x .call) f))
 
   -- a slot that is there
@@ -127,12 +95,12 @@ module _ {reached row : List Call} {held : ℕ} {call : Call} (h : Holds reached
       let l : i < length reached = omega (arith, h .slots, q) in
       let a = at-place reached i unopenedCall l in
       let c : call ≡ getD reached i unopenedCall =
-      holds-call h unopenedCall ∙ ap (λ (j : ℕ). getD (withLast reached) j unopenedCall) k ∙ got-front reached (unopenedCall ∷ []) i unopenedCall l in
+      holds-call h unopenedCall ∙ ap (λ (j : ℕ). getD (withLast reached) j unopenedCall) k ∙ List·getD-append reached (unopenedCall ∷ []) unopenedCall i l in
       let g : o ≡ stepOf (getD reached i unopenedCall) e = f ∙ ap (λ (x : Call). stepOf x e) c in
       let r : rowAfter reached i e ≡ set reached i (o .call) = row-is reached i e (getD reached i unopenedCall) q a ∙ ap (λ (x : Outcome). set reached i (x .call)) (sym g) in (
         g ∙ sym (answer-is reached i e (getD reached i unopenedCall) q a),
         newer h (o .call) (rowAfter reached i e)
-            (ap (λ (j : ℕ). set (withLast reached) j (o .call)) k ∙ put-front reached (unopenedCall ∷ []) i (o .call) l ∙ ap withLast (sym r))
+            (ap (λ (j : ℕ). set (withLast reached) j (o .call)) k ∙ set-append-left reached (unopenedCall ∷ []) i (o .call) l ∙ ap withLast (sym r))
             (ap length r ∙ length-set reached i (o .call) ∙ h .slots),
       )
 
@@ -142,7 +110,7 @@ module _ {reached row : List Call} {held : ℕ} {call : Call} (h : Holds reached
   missed i e o p q f =
       let t = past-63 reached i e q in
       let c : call ≡ unopenedCall =
-      holds-call h unopenedCall ∙ ap (λ (j : ℕ). getD (withLast reached) j unopenedCall) (p ∙ index-past i q ∙ sym (h .slots)) ∙ got-last reached unopenedCall unopenedCall in (
+      holds-call h unopenedCall ∙ ap (λ (j : ℕ). getD (withLast reached) j unopenedCall) (p ∙ index-past i q ∙ sym (h .slots)) ∙ getD-append-seam reached unopenedCall [] unopenedCall in (
         f ∙ ap (refusedOf noSuchSlot) c ∙ sym (t .0),
         subst (λ (l : List Call). Holds l row held (o .call)) (sym (t .1)) (same-call o (ap (λ (x : Outcome). x .call) f)),
       )

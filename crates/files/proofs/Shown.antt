@@ -4,7 +4,7 @@ use mathlib.Core.Path.{_≡_, refl, sym, ap, subst, _∙_}
 use mathlib.Core.Bool.{Bool}
 use mathlib.Core.List.{List, [], _∷_, _++_, append-assoc, append-nil}
 use mathlib.Core.Logic.{_⊎_, inl, inr}
-use mathlib.Core.Option.{none, some}
+use mathlib.Core.Option.{some}
 use Prim.Native.Nat.{ℕ, zero, suc, _+_, _≤_, _<_}
 use native.Mathlib.Nat.{add-zero, add-suc, zero-add}
 use native.Mathlib.Numerals.{add-one}
@@ -23,7 +23,7 @@ use Rattle.rows.specs.declared.Call.{Call}
 use Rattle.rows.specs.declared.Event.{Event}
 use Rattle.rows.specs.declared.Outcome.{Outcome}
 use Rattle.board.specs.Row.{Named, noSlot, answerAt, rowAfter, runRow, ownOf, emptyRow}
-use Rattle.board.proofs.Laws.{placed-is}
+use Rattle.board.proofs.Laws.{some-is, none-is-not, placed-is}
 use Rattle.board.proofs.Runs.{run-append, own-append, empty-slot}
 use Rattle.board.proofs.Theorems.{past-63, slot-answers, program-slots}
 use Rattle.files.specs.Bodies.{readBy, readAt}
@@ -164,11 +164,8 @@ listing-shown s =
 
 -- ---- The k-th record shown, k from 0
 
-pub none-some : {A P : Type 0} (x : A) → none ≡ some x → P
-none-some x h = let z : _≡_ {A = ℕ} 0 1 = cc in absurd (omega arith)
-
 pub some-some : {A : Type 0} (P : A → Type 0) (y x : A) → some y ≡ some x → P y → P x
-some-some P y x h p = let e : y ≡ x = cc in subst P e p
+some-some P y x h p = subst P (some-is h) p
 
 -- the answer to the k-th entry, by the row that the entries before it reach
 abbrev ByEntry : List Entry → List Entry → ℕ → ℕ → Outcome → Type 0
@@ -194,11 +191,11 @@ after-one before xs y ending k i o (inr (n, g, l, p, q)) =
 
 kth : (before xs : List Entry) (ending : Ending) (k : ℕ) (x : Shown) →
     getElem? (shownAfter before xs ending) k ≡ some x → Kth before xs ending k x
-kth before [] whole k x h = none-some x h
+kth before [] whole k x h = none-is-not h
 kth before [] (unread n) zero x h =
     some-some (Kth before [] (unread n) 0) _ x h
     (omega arith, inr (n, refl, refl, refl, ap (λ (ds : List Entry). refusedOf n (getD (rowAt ds) 0 unopenedCall)) (sym (append-nil before))))
-kth before [] (unread n) (suc k) x h = none-some x h
+kth before [] (unread n) (suc k) x h = none-is-not h
 kth before (y ∷ xs) ending zero x h =
     some-some (Kth before (y ∷ xs) ending 0) _ x h
     (omega arith, inl (y, refl, refl, ap (λ (ds : List Entry). answerAt (rowAt ds) (slotOf (y .acts)) (y .event)) (sym (append-nil before))))
@@ -216,7 +213,7 @@ kth-shown s k x h = let i = kth [] (entriesOf s) (contentsOf s .ending) k x h in
     told : {i : ℕ} {o : Outcome} → ByEntry [] (entriesOf s) k i o ⊎ ByEnding [] (entriesOf s) (contentsOf s .ending) k i o →
         AnswersEntry s k i o ⊎ RefusesRecord s k i o
     told (inl i) = inl i
-    told (inr (n, g, l, p, q)) = inr (n, unread-number s n g .0, unread-number s n g .1, l, p, q)
+    told (inr (n, g, l, p, q)) = inr (n, unread-number s n g .0, unread-number s n g .1, g, l, p, q)
 
 -- ---- A slot's call is the one that its own events reach
 
@@ -240,7 +237,7 @@ own-more i xs x h =
     ∙ ap (λ (b : Bool). ownOf i (namedAll xs) ++ pick b (x .event ∷ []) []) (eq-eqb (slotOf (x .acts)) i (sym h))
 
 take-one : (xs : List Entry) (k : ℕ) (x : Entry) → getElem? xs k ≡ some x → take (suc k) xs ≡ take k xs ++ (x ∷ [])
-take-one [] k x h = none-some x h
+take-one [] k x h = none-is-not h
 take-one (y ∷ xs) zero x h = some-some (λ (z : Entry). y ∷ [] ≡ z ∷ []) y x h refl
 take-one (y ∷ xs) (suc k) x h = ap (λ (l : List Entry). y ∷ l) (take-one xs k x h)
 
@@ -252,18 +249,18 @@ kth-call s k i o u (inl (x, h, p, q)) =
     ap (λ (a : Outcome). a .call) (q ∙ slot-answer xs i (x .event) u) ∙ sym (run-one unopenedCall (ownEvents i xs) (x .event))
     ∙ ap (run unopenedCall) (sym (own-more i xs x p)) ∙ ap (λ (l : List Entry). run unopenedCall (ownEvents i l)) (sym (take-one (entriesOf s) k x h))
     ∙ ap (λ (j : ℕ). run unopenedCall (ownEvents i (take j (entriesOf s)))) (sym (add-one k))
-kth-call s k i o u (inr (n, g, l, m, p, q)) =
+kth-call s k i o u (inr (n, a, b, g, m, p, q)) =
     ap (λ (a : Outcome). a .call) q ∙ slot-call (entriesOf s) 0 unopenedCall (omega arith) ∙ ap (λ (j : ℕ). run unopenedCall (ownEvents j (entriesOf s))) (sym p)
     ∙ ap (λ (l : List Entry). run unopenedCall (ownEvents i l)) (sym (take-all (k + 1) (entriesOf s) (omega arith)))
 
 -- .. and where there is no such slot, the answer is 19 with an unopened call.
 pub kth-past : (s : List ℕ) (k i : ℕ) (o : Outcome) → 64 ≤ i → AnswersEntry s k i o ⊎ RefusesRecord s k i o → o ≡ noSlot
 kth-past s k i o u (inl (x, h, p, q)) = q ∙ past-63 (rowAt (take k (entriesOf s))) i (x .event) u .0
-kth-past s k i o u (inr (n, g, l, m, p, q)) = absurd (omega (arith, u, p))
+kth-past s k i o u (inr (n, a, b, g, m, p, q)) = absurd (omega (arith, u, p))
 
 -- past the last entry there is none
 none-past : (xs : List Entry) (x : Entry) → getElem? xs (length xs) ≡ some x → ⊥
-none-past [] x h = none-some x h
+none-past [] x h = none-is-not h
 none-past (y ∷ xs) x h = none-past xs x h
 
 -- An entry is answered by the call that its slot's own events before it reach.
@@ -273,7 +270,7 @@ kth-own s k i o u (inl (x, h, p, q)) y g =
     q ∙ slot-answer (take k (entriesOf s)) i (x .event) u
     ∙ some-some (λ (z : Entry). stepOf (run unopenedCall (ownEvents i (take k (entriesOf s)))) (x .event) ≡ stepOf (run unopenedCall (ownEvents i (take k (entriesOf s)))) (z .event))
     x y (sym h ∙ g) refl
-kth-own s k i o u (inr (n, a, b, l, m, q)) y g = absurd (none-past (entriesOf s) y (subst (λ (j : ℕ). getElem? (entriesOf s) j ≡ some y) l g))
+kth-own s k i o u (inr (n, a, b, w, l, m, q)) y g = absurd (none-past (entriesOf s) y (subst (λ (j : ℕ). getElem? (entriesOf s) j ≡ some y) l g))
 
 -- ---- The last record shown of a slot
 
@@ -284,7 +281,7 @@ Last s k i = (j : ℕ) (y : Shown) → k < j → getElem? (shownOf s) j ≡ some
 -- each entry is shown, at its slot
 entry-shown : (before xs : List Entry) (ending : Ending) (j : ℕ) (x : Entry) → getElem? xs j ≡ some x →
     (y : Shown) × (getElem? (shownAfter before xs ending) j ≡ some y) × (y .slot ≡ slotOf (x .acts))
-entry-shown before [] ending j x h = none-some x h
+entry-shown before [] ending j x h = none-is-not h
 entry-shown before (z ∷ xs) ending zero x h = (
   record { ordinal = length before + 1; slot = slotOf (z .acts); answer = answerAt (rowAt before) (slotOf (z .acts)) (z .event) },
   refl,

@@ -10,13 +10,15 @@ use native.Mathlib.Omega.{arith}
 use lib.ListN.{length, getElem?}
 use Rattle.text.proofs.Cases.{both-lt}
 use Rattle.rows.proofs.Truth.{differ}
+use Rattle.board.proofs.Laws.{none-is-not}
 use Rattle.files.specs.Bodies.{readAt}
 use Rattle.files.specs.Listing.{isSlot, namesSlot, namesIn, namesSlots}
 use Rattle.files.specs.Places.{placeAfter, placesFrom, placesOf}
 use Rattle.files.specs.Shown.{andThen, contentsFrom, contentsOf, entriesOf}
 use Rattle.files.specs.Typed.{Entry}
 use Rattle.files.specs.declared.Read.{Read}
-use Rattle.files.proofs.Shown.{Stands, stands, past, no-places, none-some, some-some}
+use Rattle.files.specs.declared.Where.{Where}
+use Rattle.files.proofs.Shown.{Stands, stands, past, no-places, some-some}
 
 -- one of the entries names a slot
 abbrev someNames : List Entry → Bool
@@ -51,7 +53,7 @@ one-names (x ∷ xs) h = by (isSlot (x .acts)) refl h (one-names xs)
     by false e g more = let i = more g in (suc (i .0), i .1, i .2, i .3)
 
 names-one : (xs : List Entry) (k : ℕ) (x : Entry) → getElem? xs k ≡ some x → isSlot (x .acts) ≡ true → someNames xs ≡ true
-names-one [] k x g h = none-some x g
+names-one [] k x g h = none-is-not g
 names-one (y ∷ xs) zero x g h =
     ap (λ (b : Bool). b || someNames xs) (some-some (λ (z : Entry). isSlot (z .acts) ≡ true → isSlot (y .acts) ≡ true) y x g (λ e. e) h)
 names-one (y ∷ xs) (suc k) x g h = either (isSlot (y .acts)) (names-one xs k x g h)
@@ -60,9 +62,19 @@ names-one (y ∷ xs) (suc k) x g h = either (isSlot (y .acts)) (names-one xs k x
     either true e = refl
     either false e = e
 
+-- what names a slot names some slot
+slot-named : (w : Where) → isSlot w ≡ true → (i : ℕ) × (w ≡ Where.Slot i)
+slot-named Where.Plain h = differ h
+slot-named (Where.Slot i) h = (i, refl)
+
 pub shows-slots-exactly : (s : List ℕ) →
-    (namesSlots s ≡ true) ↔ ((k : ℕ) × (x : Entry) × (getElem? (entriesOf s) k ≡ some x) × (isSlot (x .acts) ≡ true))
+    (namesSlots s ≡ true) ↔ ((k : ℕ) × (x : Entry) × (i : ℕ) × (getElem? (entriesOf s) k ≡ some x) × (x .acts ≡ Where.Slot i))
 unfolding namesSlots placesOf contentsOf
 shows-slots-exactly s =
-    let e = by-entries (length s) s 0 in
-    (λ h. one-names (entriesOf s) (sym e ∙ h), λ i. e ∙ names-one (entriesOf s) (i .0) (i .1) (i .2) (i .3))
+    let e = by-entries (length s) s 0 in (
+      λ h.
+          let o = one-names (entriesOf s) (sym e ∙ h) in
+          let i = slot-named (o .1 .acts) (o .3) in
+          (o .0, o .1, i .0, o .2, i .1),
+      λ o. e ∙ names-one (entriesOf s) (o .0) (o .1) (o .3) (ap isSlot (o .4)),
+    )

@@ -34,10 +34,10 @@ use Rattle.files.specs.Bodies.{numberValues, valuesOf, recordOf, entryOf
 use Rattle.files.specs.Dump.{dumpOf}
 use Rattle.files.specs.Fields.{numberFields, bytesOf}
 use Rattle.files.specs.Fit.{answers}
-use Rattle.files.specs.Listing.{isSlot, namesSlots, listingOf}
+use Rattle.files.specs.Listing.{namesSlots, listingOf}
 use Rattle.files.specs.Lines.{actionText}
 use Rattle.files.specs.Messages.{numberText}
-use Rattle.files.specs.Shown.{whole, contentsOf, entriesOf, ownEvents, Shown, shownOf, eventsIn, oneListing}
+use Rattle.files.specs.Shown.{whole, contentsFrom, contentsOf, entriesOf, ownEvents, Shown, shownOf, eventsIn, oneListing}
 use Rattle.files.specs.Typed.{AllBytes, TypedNumber, Typed, TypedWhere, Entry, Writable, fileOf}
 use Rattle.files.specs.Words.{numberWord}
 use Rattle.files.specs.Write.{numberOf, bytesWritten, givesBack, numberWith, messageWith}
@@ -58,6 +58,7 @@ use Rattle.files.proofs.HostWrites
 use Rattle.files.proofs.HostWrites.{Writes, Hands}
 use Rattle.files.proofs.OneCall
 use Rattle.files.proofs.Same.{Fitted, answeredOf, heldOf, Wrote, Numbered, HandedOver}
+use Rattle.files.proofs.Shown
 use Rattle.files.proofs.Shown.{Last}
 use Rattle.files.proofs.Slots
 use Rattle.files.proofs.TwoRooms
@@ -84,12 +85,16 @@ last-line-billed = Billed.last-line-billed
 -- Slots are shown exactly where a record of kind 7 is read before the reading stops, whatever it is answered; then on every line, else on none
 -- (`shownText`, by one answer for all).
 pub shows-slots-exactly : (s : List ℕ) →
-    (namesSlots s ≡ true) ↔ ((k : ℕ) × (x : Entry) × (getElem? (entriesOf s) k ≡ some x) × (isSlot (x .acts) ≡ true))
+    (namesSlots s ≡ true) ↔ ((k : ℕ) × (x : Entry) × (i : ℕ) × (getElem? (entriesOf s) k ≡ some x) × (x .acts ≡ Slot i))
 shows-slots-exactly = Slots.shows-slots-exactly
 
 -- A file with plain records alone lists as one call does: each event is answered by the call that the events before it reach.
 pub plain-lists-as-one : (s : List ℕ) → namesSlots s ≡ false → listingOf s ≡ oneListing (eventsIn (contentsOf s .entries)) (contentsOf s .ending)
 plain-lists-as-one = OneCall.plain-lists-as-one
+
+-- No record is left out: whoever looks for more of them than a file has bytes finds what it holds, and no more.
+pub all-read : (s : List ℕ) (k : ℕ) → contentsFrom (length s + k) s 0 ≡ contentsOf s
+all-read = Shown.all-read
 
 -- ---- The numbers of a listing
 

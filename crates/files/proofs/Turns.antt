@@ -10,18 +10,24 @@ use lib.ListN.{length, getD, set, replicate}
 use Rattle.text.specs.Text.{Put, ascii}
 use Rattle.text.proofs.Cases.{yes-lt, no-lt, both-lt}
 use Rattle.text.proofs.Laws.{put-none, put-after, put-as}
-use Rattle.rows.specs.Step.{unopenedCall}
+use Rattle.rows.specs.Perform.{refusedOf}
+use Rattle.rows.specs.Step.{stepOf, unopenedCall}
+use Rattle.board.specs.Numbers.{noSuchSlot}
 use Rattle.board.specs.Row.{emptyRow}
 use Rattle.rows.specs.declared.Call.{Call}
+use Rattle.rows.specs.declared.Event.{Event}
 use Rattle.rows.specs.declared.Outcome.{Outcome}
-use Rattle.files.specs.Bodies.{readAt}
+use Rattle.files.specs.Bodies.{eventAt, bodyAt, readBy, readAt}
 use Rattle.files.specs.Dump.{placeText, placesText, dumpOf, longestPlace}
 use Rattle.files.specs.Lines.{numberedLine, recordText, longestRecord}
-use Rattle.files.specs.Listing.{slotFound, namesSlot, answerOf, rowBy, indexOf, restOf, recordsOf, listingBy, namesIn, namesSlots, listingOf}
+use Rattle.files.specs.Listing.{slotFound, slotFramed, afterFrame, namesSlot, namesFramed, answerOf, rowBy, indexOf, restOf, recordsOf, listingBy, namesIn, namesSlots, listingOf}
 use Rattle.files.specs.Places.{placeAfter, placesFrom, placesOf}
+use Rattle.files.specs.Frames.{frameAt}
+use Rattle.files.specs.declared.Frame.{Frame}
 use Rattle.files.specs.declared.Read.{Read}
+use Rattle.files.specs.declared.Where.{Where}
 use Rattle.files.proofs.Held.{Holds, holds-other, answered}
-use Rattle.files.proofs.Records.{Within, read-within}
+use Rattle.files.proofs.Records.{Within, read-within, read-as}
 
 or-false : (b : Bool) → (b || false) ≡ b
 or-false true = refl
@@ -147,7 +153,7 @@ module _ {s : List ℕ} {shown : Bool} {out₀ out : List ℕ} {to₀ to at n : 
   found-there d h e f g =
       rw (e, f, g) (record { listed = record { reached = l .reached; holds = holds-other (l .holds) index d h; so = l .so; names = l .names }; index-held = refl })
 
-pub listed-on : (s : List ℕ) (shown : Bool) (out₀ out out′ : List ℕ) (to₀ to to′ at next n slot index : ℕ) (named named′ b names : Bool) (row : List Call) (held : ℕ) (call : Call) (f : Read) (o : Outcome)
+listed-on : (s : List ℕ) (shown : Bool) (out₀ out out′ : List ℕ) (to₀ to to′ at next n slot index : ℕ) (named named′ b names : Bool) (row : List Call) (held : ℕ) (call : Call) (f : Read) (o : Outcome)
     → Found s shown out₀ to₀ out to at n named index row held call → at < length s
     → f ≡ readAt s at → slot ≡ slotFound f → index ≡ indexOf slot → b ≡ ltb index 64 → o ≡ answerOf f b call
     → names ≡ namesSlot f → named′ ≡ (named || names)
@@ -170,6 +176,46 @@ listed-on s shown out₀ out out′ to₀ to to′ at next n slot index named na
           ∙ ap (λ (ps : List ℕ). named || namesIn s ps) (one-less s at next f h g e (c .0))
           ∙ ap (λ (y : ℕ). named || namesIn s (placesFrom y s at)) (sym (c .1)) ∙ l .names;
     }
+
+-- the answer, by the frame that was found
+module _ (s : List ℕ) (at : ℕ) (f : Frame) (there : Bool) (c : Call) (o : Outcome) where
+  pub answer-stop : (n : ℕ) → f ≡ Frame.Stop n → o ≡ refusedOf n c → o ≡ answerOf (readBy s at f) there c
+  answer-stop n e h = h ∙ ap (λ (x : Frame). answerOf (readBy s at x) there c) (sym e)
+
+  pub answer-step : (w : Where) (kind next b : ℕ) (v : Event) → f ≡ Frame.Body w kind next → b ≡ bodyAt w at → v ≡ eventAt s b kind → there ≡ true
+      → o ≡ stepOf c v → o ≡ answerOf (readBy s at f) there c
+  answer-step w kind next b v e g h t k = k ∙ rw (e, t, h, g)
+
+  pub answer-miss : (w : Where) (kind next : ℕ) → f ≡ Frame.Body w kind next → there ≡ false → o ≡ refusedOf noSuchSlot c → o ≡ answerOf (readBy s at f) there c
+  answer-miss w kind next e t k = k ∙ rw (e, t)
+
+-- by the frame that was found
+slot-by : (s : List ℕ) (at : ℕ) (f : Frame) → slotFramed f ≡ slotFound (readBy s at f)
+slot-by s at (Frame.Stop n) = refl
+slot-by s at (Frame.Body w kind next) = refl
+
+names-by : (s : List ℕ) (at : ℕ) (f : Frame) → namesFramed f ≡ namesSlot (readBy s at f)
+names-by s at (Frame.Stop n) = refl
+names-by s at (Frame.Body w kind next) = refl
+
+after-by : (s : List ℕ) (at stay : ℕ) (f : Frame) → afterFrame f stay ≡ placeAfter (readBy s at f) stay
+unfolding placeAfter
+after-by s at stay (Frame.Stop n) = refl
+after-by s at stay (Frame.Body w kind next) = refl
+
+module _ (s : List ℕ) (at next : ℕ) (f : Frame) (h : at < length s) (g : f ≡ frameAt s at) (e : next ≡ afterFrame f (length s)) where
+  pub frame-falls : length s - next < length s - at
+  frame-falls = loop-falls s at next (readBy s at f) h (read-as s at f (readBy s at f) h g refl) (e ∙ after-by s at (length s) f)
+
+  pub listed-by : (shown : Bool) (out₀ out out′ : List ℕ) (to₀ to to′ n slot index : ℕ) (named named′ b names : Bool) (row : List Call) (held : ℕ) (call : Call) (o : Outcome)
+      → Found s shown out₀ to₀ out to at n named index row held call
+      → slot ≡ slotFramed f → index ≡ indexOf slot → b ≡ ltb index 64 → o ≡ answerOf (readBy s at f) b call
+      → names ≡ namesFramed f → named′ ≡ (named || names)
+      → Put out to (recordText (n + 1) shown slot o) out′ to′ → to′ ≤ to + longestRecord
+      → Listed s shown out₀ to₀ out′ to′ next (n + 1) named′ row held (o .call)
+  listed-by shown out₀ out out′ to₀ to to′ n slot index named named′ b names row held call o i u v t d w x p m =
+      listed-on s shown out₀ out out′ to₀ to to′ at next n slot index named named′ b names row held call (readBy s at f) o i h
+      (read-as s at f (readBy s at f) h g refl) (u ∙ slot-by s at f) v t d (w ∙ names-by s at f) x p m (e ∙ after-by s at (length s) f)
 
 pub listed-done : (s old out₀ out out′ : List ℕ) (shown : Bool) (to₀ to at n r : ℕ) (named : Bool) (row : List Call) (held : ℕ) (call : Call) → Listed s shown out₀ to₀ out to at n named row held call
     → length s ≤ at → Put old 0 (ascii "REV 1\n") out₀ to₀ → Put out to (numberedLine (ascii "END ") n) out′ r → Put old 0 (listingBy shown s) out′ r

@@ -88,6 +88,9 @@ worked :
     ++ ascii "5 0 5 NULL IDLE 0 0 0\n"
     ++ ascii "END 5\n")
     × (listingOf (6 ∷ []) ≡ ascii "REV 1\n1 5 NONE IDLE 0 0 0\nEND 1\n")
+    × (listingOf (1 ∷ 0 ∷ []) ≡ ascii "REV 1\n1 6 NONE IDLE 0 0 0\nEND 1\n")
+    × (listingOf (2 ∷ 0 ∷ 8 ∷ 0 ∷ []) ≡ ascii "REV 1\n1 7 NONE IDLE 0 0 0\nEND 1\n")
+    × (listingOf (8 ∷ 0 ∷ 7 ∷ 0 ∷ 0 ∷ 0 ∷ 2 ∷ 0 ∷ 5 ∷ 0 ∷ []) ≡ ascii "REV 1\n1 0 17 NONE IDLE 0 0 0\nEND 1\n")
     × (listingOf [] ≡ ascii "REV 1\nEND 0\n")
     × (listingOf case-l
     ≡ ascii "REV 1\n"
@@ -106,7 +109,7 @@ worked :
     ++ ascii "> REL 16\n"
     ++ ascii "END 7\n")
 unfolding case-l case-abroad case-board listingOf listingBy namesSlots namesIn recordsOf restOf emptyRow placesOf placesFrom placeAfter recordText actionsText releasedText sentText carriedText numberedLine lineText metersText standText valuesText partsText withDigits numberText textIf withOperation operationText readAt eventAt accessAt messageAt timeAt numberIf natureOf countOf componentOf askAt openingAt frameAt slottedFrame plainFrame plainOf kindlessOf outerOf lengthOf sizeOf valuesAt leAt numbered decimal decimalBy lastDigits ifLt ifLe ifEq ifSo
-worked = (refl, refl, refl, refl, refl, refl, refl, refl, refl, refl, refl, refl, refl)
+worked = (refl, refl, refl, refl, refl, refl, refl, refl, refl, refl, refl, refl, refl, refl, refl, refl)
 
 -- a message with every field out of its range, and a byte more
 case-odd : List ℕ

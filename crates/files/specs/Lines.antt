@@ -48,8 +48,8 @@ slotText false slot = []
 
 -- "its ordinal, number, phase, REV state, caller, called, far"
 unfoldable pub lineText : ℕ → Bool → ℕ → ℕ → Call → List ℕ
-lineText ordinal slots slot number call =
-    decimal ordinal ++ slotText slots slot ++ numbered (ascii " ") number ++ standText (call .stand) ++ metersText (call .meters) ++ ascii "\n"
+lineText ordinal shown slot number call =
+    decimal ordinal ++ slotText shown slot ++ numbered (ascii " ") number ++ standText (call .stand) ++ metersText (call .meters) ++ ascii "\n"
 
 unfoldable pub numberedLine : List ℕ → ℕ → List ℕ
 numberedLine word n = numbered word n ++ ascii "\n"
@@ -79,7 +79,7 @@ actionsText o =
 
 -- a record's line and, where a row was applied, its actions
 unfoldable pub recordText : ℕ → Bool → ℕ → Outcome → List ℕ
-recordText ordinal slots slot o = lineText ordinal slots slot (o .number) (o .call) ++ ifEq (o .number) applied (actionsText o) []
+recordText ordinal shown slot o = lineText ordinal shown slot (o .number) (o .call) ++ ifEq (o .number) applied (actionsText o) []
 
 -- no record's text is longer
 abbrev pub longestRecord : ℕ

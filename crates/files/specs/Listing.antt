@@ -15,6 +15,7 @@ use Rattle.rows.specs.declared.Outcome.{Outcome}
 use Rattle.files.specs.Bodies.{readAt}
 use Rattle.files.specs.Lines.{numberedLine, recordText}
 use Rattle.files.specs.Places.{placesOf}
+use Rattle.files.specs.declared.Frame.{Frame}
 use Rattle.files.specs.declared.Read.{Read}
 use Rattle.files.specs.declared.Where.{Where}
 use Rattle.files.specs.declared.Where.the-variants.{Plain, Slot}
@@ -39,6 +40,19 @@ abbrev pub namesSlot : Read → Bool
 namesSlot Read.End = false
 namesSlot (Read.Stop n) = false
 namesSlot (Read.Got w e next) = isSlot w
+
+-- the same of a frame, and the place after it: what a listing goes by, so that an event is read where it is answered
+abbrev pub slotFramed : Frame → ℕ
+slotFramed (Frame.Stop n) = 0
+slotFramed (Frame.Body w kind next) = slotOf w
+
+abbrev pub namesFramed : Frame → Bool
+namesFramed (Frame.Stop n) = false
+namesFramed (Frame.Body w kind next) = isSlot w
+
+abbrev pub afterFrame : Frame → ℕ → ℕ
+afterFrame (Frame.Stop n) stay = stay
+afterFrame (Frame.Body w kind next) stay = next
 
 -- ---- The answer to what stands at a place of a file
 

@@ -91,8 +91,8 @@ shownOf s = shownAfter [] (contentsOf s .entries) (contentsOf s .ending)
 
 -- with slots or without
 abbrev pub shownText : Bool → List Shown → List ℕ
-shownText slots [] = []
-shownText slots (x ∷ xs) = recordText (x .ordinal) slots (x .slot) (x .answer) ++ shownText slots xs
+shownText shown [] = []
+shownText shown (x ∷ xs) = recordText (x .ordinal) shown (x .slot) (x .answer) ++ shownText shown xs
 
 -- ---- An answer o to the k-th record, k from 0, at the slot i
 
@@ -101,10 +101,10 @@ abbrev pub AnswersEntry : List ℕ → ℕ → ℕ → Outcome → Type 0
 AnswersEntry s k i o =
     (x : Entry) × (getElem? (entriesOf s) k ≡ some x) × (i ≡ slotOf (x .acts)) × (o ≡ answerAt (rowAt (take k (entriesOf s))) i (x .event))
 
--- after all entries, the refusal of a record that cannot be read: 5, 6 or 7, slot 0 and its call as it stood
+-- after all entries, the refusal of a record that cannot be read: the 5, 6 or 7 with which the file ends, slot 0 and its call as it stood
 abbrev pub RefusesRecord : List ℕ → ℕ → ℕ → Outcome → Type 0
 RefusesRecord s k i o =
-    (n : ℕ) × (5 ≤ n) × (n ≤ 7) × (k ≡ length (entriesOf s)) × (i ≡ 0) × (o ≡ refusedOf n (getD (rowAt (entriesOf s)) 0 unopenedCall))
+    (n : ℕ) × (5 ≤ n) × (n ≤ 7) × (contentsOf s .ending ≡ unread n) × (k ≡ length (entriesOf s)) × (i ≡ 0) × (o ≡ refusedOf n (getD (rowAt (entriesOf s)) 0 unopenedCall))
 
 -- ---- A record's text with its meters taken from the bill, and not from the call
 
@@ -117,8 +117,8 @@ billText f h =
 
 -- "its ordinal, number, phase, REV state, caller, called, far; then its actions"
 unfoldable pub billedText : Bool → Shown → ℕ → List Step → List ℕ
-billedText slots x f h =
-    decimal (x .ordinal) ++ slotText slots (x .slot) ++ numbered (ascii " ") (x .answer .number) ++ standText (x .answer .call .stand)
+billedText shown x f h =
+    decimal (x .ordinal) ++ slotText shown (x .slot) ++ numbered (ascii " ") (x .answer .number) ++ standText (x .answer .call .stand)
     ++ billText f h ++ ascii "\n"
     ++ ifEq (x .answer .number) applied (actionsText (x .answer)) []
 

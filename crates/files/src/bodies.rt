@@ -158,7 +158,7 @@ fn time_at(s: &[u8], b: usize) -> Event
 }
 
 // The event of a body. A frame lets no kind through but 1 to 6.
-fn event_at(s: &[u8], b: usize, kind: u32) -> Event
+pub(crate) fn event_at(s: &[u8], b: usize, kind: u32) -> Event
     requires { ⌜ b + 64 < 2 ^ 64 ⌝ }
     ensures { λ r. ⌜ r ≡ eventAt (now (s .entry)) b kind ⌝ }
 {
@@ -181,7 +181,7 @@ fn event_at(s: &[u8], b: usize, kind: u32) -> Event
 }
 
 // Where the body of its event begins: after length and kind; inside one of kind 7 after these, the slot, and length and kind once more.
-fn body_at(w: Where, at: usize) -> usize
+pub(crate) fn body_at(w: Where, at: usize) -> usize
     requires { ⌜ at < 2 ^ 63 ⌝ }
     ensures { λ r. ⌜ (r ≡ bodyAt w at) × (r ≤ at + 10) ⌝ }
 {

@@ -1,4 +1,4 @@
-// The event file of one call: its listing, a dump of it, a reader of its records, and a writer of them.
+// The event file of a board of calls: its listing, a dump of it, a reader of its records, and a writer of them.
 //
 //     bytes --frame--> kind --event--> Event --step--> Outcome --put--> text
 //

@@ -1,18 +1,21 @@
-// The listing of a file: every record's line and actions, from one call that each event steps on.
+// The listing of a file: every record's line and actions, from a row of calls, of which each event steps one on.
 ghost use mathlib.Core.Path.{_≡_};
-ghost use Prim.Native.Nat.{_≤_, _<_};
+ghost use Prim.Native.Nat.{_≤_, _<_, _^_};
 ghost use lib.ListN.{length};
 ghost use Rattle.text.specs.Text.{Put};
+ghost use Rattle.files.specs.Bodies.{readBy};
 ghost use Rattle.files.specs.Fit.{longest, answers, leaves};
-ghost use Rattle.files.specs.Listing.{slotOf, slotFound, isSlot, namesSlot, answerOf, indexOf, namesSlots, listingBy, listingOf};
-use crate::Read;
+ghost use Rattle.files.specs.Listing.{slotOf, slotFramed, afterFrame, isSlot, namesFramed, answerOf, indexOf, namesSlots};
+ghost use Rattle.files.specs.Listing.{listingBy, listingOf};
+use crate::Frame;
 use crate::Where;
-use crate::bodies::read_at;
+use crate::bodies::body_at;
+use crate::bodies::event_at;
 use crate::fit::LONGEST;
 use crate::fit::TOO_LONG;
+use crate::frames::frame;
 use crate::lines::put_numbered_line;
 use crate::lines::put_record;
-use crate::places::place_after;
 use board::NO_SUCH_SLOT;
 use board::SLOTS;
 use rows::Call;
@@ -34,13 +37,22 @@ fn slot_of(w: Where) -> usize
     }
 }
 
-fn slot_found(found: Read) -> usize
-    ensures { λ r. ⌜ (r ≡ slotFound found) × (r < 65536) ⌝ }
+fn slot_framed(f: Frame) -> usize
+    ensures { λ r. ⌜ (r ≡ slotFramed f) × (r < 65536) ⌝ }
 {
-    match found {
-        Read::End => 0,
-        Read::Stop(_) => 0,
-        Read::Got(w, _, _) => slot_of(w),
+    match f {
+        Frame::Stop(_) => 0,
+        Frame::Body(w, _, _) => slot_of(w),
+    }
+}
+
+// The place after a record, `stay` where it cannot be read.
+fn after_frame(f: Frame, stay: usize) -> usize
+    ensures { λ r. ⌜ r ≡ afterFrame f stay ⌝ }
+{
+    match f {
+        Frame::Stop(_) => stay,
+        Frame::Body(_, _, next) => next,
     }
 }
 
@@ -54,31 +66,34 @@ fn index_of(slot: usize) -> usize
     SLOTS
 }
 
-// The answer of a slot's call to what stands at a place: a record that cannot be read is refused with its number.
-fn answer(found: Read, there: bool, call: Call) -> Outcome
-    ensures { λ r. ⌜ r ≡ answerOf found there call ⌝ }
+// The answer of a slot's call to the record at a place, by its frame: one that cannot be read is refused with its number. The event is read
+// here, where it is answered, so that no record of it is handed on.
+fn answer(file: &[u8], at: usize, f: Frame, there: bool, call: Call) -> Outcome
+    requires { ⌜ at < 2 ^ 63 ⌝ }
+    ensures { λ r. ⌜ r ≡ answerOf (readBy (now (file .entry)) at f) there call ⌝ }
 {
-    match found {
-        Read::End => call.refused(0),
-        Read::Stop(number) => call.refused(number),
-        Read::Got(_, e, _) => {
+    match f {
+        Frame::Stop(number) => call.refused(number),
+        Frame::Body(w, kind, _) => {
+            let b = body_at(w, at);
+            let e = event_at(file, b, kind);
             if there {
-                return call.step(e);
+                call.step(e)
+            } else {
+                // the call past the last slot, which is never opened
+                call.refused(NO_SUCH_SLOT)
             }
-            // the call past the last slot, which is never opened
-            call.refused(NO_SUCH_SLOT)
         }
     }
 }
 
 // Whether it is a record of kind 7.
-fn names_slot(found: Read) -> bool
-    ensures { λ r. ⌜ r ≡ namesSlot found ⌝ }
+fn names_framed(f: Frame) -> bool
+    ensures { λ r. ⌜ r ≡ namesFramed f ⌝ }
 {
-    match found {
-        Read::End => false,
-        Read::Stop(_) => false,
-        Read::Got(w, _, _) => is_slot(w),
+    match f {
+        Frame::Stop(_) => false,
+        Frame::Body(w, _, _) => is_slot(w),
     }
 }
 
@@ -106,19 +121,19 @@ fn write(file: &[u8], slots: bool, out: &mut [u8]) -> Listed
     // the place of the row whose call is in `call`, and may be newer there
     let mut held: usize = 0;
     while at < file.len() {
-        let found = read_at(file, at);
-        let slot = slot_found(found);
+        let f = frame(file, at);
+        let slot = slot_framed(f);
         let index = index_of(slot);
         if index != held {
             row[held] = call;
             call = row[index];
             held = index;
         }
-        let o = answer(found, index < SLOTS, call);
+        let o = answer(file, at, f, index < SLOTS, call);
         count += 1;
-        named = named | names_slot(found);
+        named = named | names_framed(f);
         to = put_record(out, to, count, slots, slot as u32, o);
-        at = place_after(found, file.len());
+        at = after_frame(f, file.len());
         call = o.call;
     }
     to = put_numbered_line(out, to, b"END ", count);

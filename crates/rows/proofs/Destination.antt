@@ -480,6 +480,18 @@ agreed-sum (asked y) = y .sums
 agreed-sum (turned y) = y .sums
 agreed-sum (over y) = y
 
+agreed-role : {f : ℕ} {c : Call} {w : Bool} {x : ℕ} → Agrees f c w x → c .side .role ≡ Destination
+agreed-role null = refl
+agreed-role setup = refl
+agreed-role asked-A = refl
+agreed-role asked-D = refl
+agreed-role waits = refl
+agreed-role (talks y) = refl
+agreed-role (asked-B y) = refl
+agreed-role (asked y) = refl
+agreed-role (turned y) = refl
+agreed-role (over y) = refl
+
 -- ---- THE BRIDGE: what is counted step by step is the last Duration and the seconds since. Lists alone
 
 abbrev from : ℕ → List Step → Use → ℕ
@@ -510,10 +522,11 @@ opened : (f : ℕ) (own : Number) (b : Bool) → ifInRange b unopenedCall (Openi
 opened f own true e = null
 opened f own false e = absurd (omega arith)
 
-from-opening : (f : ℕ) (own : Number) → openingThere f own .number ≡ 0 → (es : List Event) →
-    noneOpens (history (openingThere f own .call) es) ≡ true →
-    Sum (run (openingThere f own .call) es .meters) (countAll f false 0 (history (openingThere f own .call) es))
-from-opening f own e es u = agreed-sum (reached f es (opened f own (eventOk (Opening 1 f own)) e) u)
+module _ (f : ℕ) (own : Number) (e : openingThere f own .number ≡ 0) (es : List Event)
+    (u : noneOpens (history (openingThere f own .call) es) ≡ true) where
+  from-opening : Agrees f (run (openingThere f own .call) es) (remembered false (history (openingThere f own .call) es))
+      (countAll f false 0 (history (openingThere f own .call) es))
+  from-opening = reached f es (opened f own (eventOk (Opening 1 f own)) e) u
 
 -- For a destination's call from its latest opening, after any events since: called and far together are the answered seconds, or from the
 -- last Duration used on, that Duration and the answered seconds since, as the history alone says.
@@ -523,7 +536,7 @@ pub destination-seconds : (f : ℕ) (own : Number) → openingThere f own .numbe
     ≡ secondsThere f (history (openingThere f own .call) es)
 destination-seconds f own e es u =
     let h : List Step = history (openingThere f own .call) es in
-    from-opening f own e es u .both ∙ (counted-from f false 0 h ∙ from-nothing h (lastUse f false h))
+    agreed-sum (from-opening f own e es u) .both ∙ (counted-from f false 0 h ∙ from-nothing h (lastUse f false h))
 
 unused-answered : (h : List Step) (u : Use) → isUnused u ≡ true → secondsBy h u ≡ answered h
 unused-answered h unused e = refl
@@ -541,7 +554,26 @@ destination-answered f own e es u n =
 -- The caller's meter at a destination stays 0.
 pub destination-caller : (f : ℕ) (own : Number) → openingThere f own .number ≡ 0 → (es : List Event) →
     noneOpens (history (openingThere f own .call) es) ≡ true → run (openingThere f own .call) es .meters .caller ≡ 0
-destination-caller f own e es u = from-opening f own e es u .caller
+destination-caller f own e es u = agreed-sum (from-opening f own e es u) .caller
+
+-- What the meters of a destination's call (c) show of its history: f are the opening's flags, h the steps after it.
+pub record ShowsThere (c : Call) (f : ℕ) (h : List Step) : Type 0 where
+  -- the call is a destination's
+  pub role : c .side .role ≡ Destination
+  -- the caller pays at the other exchange
+  pub caller : c .meters .caller ≡ 0
+  -- the others add up to the answered seconds, or to the last Duration used and the answered seconds since
+  pub both : c .meters .called + c .meters .far ≡ secondsThere f h
+
+pub shown-there : (f : ℕ) (own : Number) → openingThere f own .number ≡ 0 → (es : List Event) →
+    noneOpens (history (openingThere f own .call) es) ≡ true →
+    ShowsThere (run (openingThere f own .call) es) f (history (openingThere f own .call) es)
+shown-there f own e es u =
+    record {
+      role = agreed-role (from-opening f own e es u);
+      caller = destination-caller f own e es u;
+      both = destination-seconds f own e es u;
+    }
 
 -- Such an opening is one whose fields are in range: flags to 31, an own number.
 pub opens-there-in-range : (f : ℕ) (own : Number) → eventOk (Opening 1 f own) ≡ true → openingThere f own .number ≡ 0

@@ -10,7 +10,7 @@ use lib.Dec.{eqb}
 use borrow.Author.Tests.{eqb-true, eqb-false, leb-true}
 use Rattle.rows.specs.Bill.{pick, Step, accepted, Line, unopened, originating, destination, strange, opens, noneOpens, openedBy}
 use Rattle.rows.specs.Bill.{laterOf, line}
-use Rattle.rows.specs.History.{run, written, history, opening}
+use Rattle.rows.specs.History.{run, written, history}
 use Rattle.rows.specs.Step.{unopenedCall, ifInRange, stepOf}
 use Rattle.rows.specs.Valid.{eventOk}
 use Rattle.rows.specs.declared.Call.{Call}
@@ -19,26 +19,27 @@ use Rattle.rows.specs.declared.Event.the-variants.{Opening, Ask, Receive
 use Rattle.rows.specs.declared.Number.{Number}
 use Rattle.rows.specs.declared.Outcome.{Outcome}
 use Rattle.rows.proofs.Anew.{starts-anew, accepted-looked, accepted-free}
+use Rattle.rows.proofs.Destination.{ShowsThere, shown-there}
 use Rattle.rows.proofs.Truth.{both, differ, left, right}
 use Rattle.rows.proofs.Whole.{Shows, Unopening, first-unopening, rest-unopening, billed}
 
 -- ---- The latest call of a history
 
--- The call c is the one that an accepted opening of role 0 with these flags (f) made of a call that was never opened, after the events since:
--- h are their steps, and no opening was accepted among them.
-pub record Since (c : Call) (f : ℕ) (h : List Step) : Type 0 where
+-- The call c is the one that an accepted opening of this role (r; 0 originating, 1 destination) with these flags (f) made of a call that was
+-- never opened, after the events since: h are their steps, and no opening was accepted among them.
+pub record Since (r : ℕ) (c : Call) (f : ℕ) (h : List Step) : Type 0 where
   pub own : Number
   pub events : List Event
-  pub taken : opening f own .number ≡ 0
-  pub call : c ≡ run (opening f own .call) events
-  pub steps : h ≡ history (opening f own .call) events
+  pub taken : stepOf unopenedCall (Opening r f own) .number ≡ 0
+  pub call : c ≡ run (stepOf unopenedCall (Opening r f own) .call) events
+  pub steps : h ≡ history (stepOf unopenedCall (Opening r f own) .call) events
   pub none : noneOpens h ≡ true
 
 -- what the latest opening of a history from the call c is
 abbrev Traced : Call → List Event → Line → Type 0
 Traced c es unopened = noneOpens (history c es) ≡ true
-Traced c es (originating f h) = Since (run c es) f h
-Traced c es destination = Unit {0}
+Traced c es (originating f h) = Since 0 (run c es) f h
+Traced c es (destination f h) = Since 1 (run c es) f h
 Traced c es strange = ⊥
 
 -- what was opened later is the latest still
@@ -46,18 +47,16 @@ later : (c : Call) (e : Event) (es : List Event) (l x : Line) → Traced (stepOf
     (noneOpens (history (stepOf c e .call) es) ≡ true → Traced c (e ∷ es) x) → Traced c (e ∷ es) (laterOf l x)
 later c e es unopened x t g = g t
 later c e es (originating f h) x t g = t
-later c e es destination x t g = tt
+later c e es (destination f h) x t g = t
 later c e es strange x t g = t
 
 module _ (c : Call) (k f : ℕ) (own : Number) (es : List Event) (i : stepOf c (Opening k f own) .number ≡ 0)
     (n : noneOpens (history (stepOf c (Opening k f own) .call) es) ≡ true) where
-  -- an accepted opening is of role 0 or of role 1, and nothing of the call before it is left
-  by-role : (z o : Bool) → eqb k 0 ≡ z → eqb k 1 ≡ o →
-      Traced c (Opening k f own ∷ es)
-      (pick z (originating f (history (stepOf c (Opening k f own) .call) es)) (pick o destination strange))
-  by-role true o p q =
-      let e : stepOf c (Opening k f own) ≡ opening f own =
-      starts-anew c k f own (accepted-free c k f own i) .whole i ∙ ap (λ (j : ℕ). stepOf unopenedCall (Opening j f own)) (eqb-true k 0 p) in
+  -- nothing of the call before an accepted opening is left
+  begun : (r : ℕ) → k ≡ r → Since r (run (stepOf c (Opening k f own) .call) es) f (history (stepOf c (Opening k f own) .call) es)
+  begun r p =
+      let e : stepOf c (Opening k f own) ≡ stepOf unopenedCall (Opening r f own) =
+      starts-anew c k f own (accepted-free c k f own i) .whole i ∙ ap (λ (j : ℕ). stepOf unopenedCall (Opening j f own)) p in
       record {
         own = own;
         events = es;
@@ -66,7 +65,14 @@ module _ (c : Call) (k f : ℕ) (own : Number) (es : List Event) (i : stepOf c (
         steps = ap (λ (a : Outcome). history (a .call) es) e;
         none = n;
       }
-  by-role false true p q = tt
+
+  -- and it is of role 0 or of role 1
+  by-role : (z o : Bool) → eqb k 0 ≡ z → eqb k 1 ≡ o →
+      Traced c (Opening k f own ∷ es)
+      (pick z (originating f (history (stepOf c (Opening k f own) .call) es))
+      (pick o (destination f (history (stepOf c (Opening k f own) .call) es)) strange))
+  by-role true o p q = begun 0 (eqb-true k 0 p)
+  by-role false true p q = begun 1 (eqb-true k 1 q)
   by-role false false p q =
       omega (arith, eqb-false k 0 p, eqb-false k 1 q, leb-true k 1 (left _ _ (accepted-looked c k f own i .ranged)))
 
@@ -90,17 +96,21 @@ traced c (e ∷ es) =
     (λ n. this-one c e es n (opens (written c e (stepOf c e))) refl)
 
 -- A history is cut at its latest accepted opening, whatever call it began with.
-pub latest-call : (c : Call) (es : List Event) (f : ℕ) (h : List Step) → line (history c es) ≡ originating f h → Since (run c es) f h
+pub latest-call : (c : Call) (es : List Event) (f : ℕ) (h : List Step) → line (history c es) ≡ originating f h → Since 0 (run c es) f h
 latest-call c es f h e = subst (Traced c es) e (traced c es)
+
+pub latest-call-there : (c : Call) (es : List Event) (f : ℕ) (h : List Step) → line (history c es) ≡ destination f h → Since 1 (run c es) f h
+latest-call-there c es f h e = subst (Traced c es) e (traced c es)
 
 -- ---- Demand 3
 
--- What is known of the call after a history that began before any opening: nothing has happened; or its meters show the bill of the
--- steps after the latest accepted opening; or that was a destination's. An accepted opening of another role does not occur.
+-- What is known of the call after a history that began before any opening: nothing has happened; or the latest accepted opening was an
+-- originating one, the call is so, and its meters show the bill of the steps after it; or that opening was a destination's, the call is so,
+-- and its meters show the seconds that those steps say. An accepted opening of another role does not occur.
 abbrev pub Told : Call → Line → Type 0
 Told c unopened = c ≡ unopenedCall
 Told c (originating f h) = Shows c f h
-Told c destination = Unit {0}
+Told c (destination f h) = ShowsThere c f h
 Told c strange = ⊥
 
 -- without an accepted opening nothing has happened
@@ -126,16 +136,21 @@ nothing-yet (e ∷ es) n =
     ap (λ (x : Call). run x es) z
     ∙ nothing-yet es (subst (λ (x : Call). noneOpens (history x es) ≡ true) z (rest-unopening s (history c es) n))
 
-since-shows : {c : Call} {f : ℕ} {h : List Step} → Since c f h → Shows c f h
-since-shows {c} {f} {h} s =
-    subst (λ (x : Call). Shows x f h) (sym (s .call))
-    (subst (λ (l : List Step). Shows (run (opening f (s .own) .call) (s .events)) f l) (sym (s .steps))
-    (billed f (s .own) (s .taken) (s .events) (subst (λ (l : List Step). noneOpens l ≡ true) (s .steps) (s .none))))
+-- what is shown of the events after an accepted opening of a role is shown of the latest call
+since-shows : (r : ℕ) (Shown : Call → ℕ → List Step → Type 0) →
+    ((f : ℕ) (own : Number) → stepOf unopenedCall (Opening r f own) .number ≡ 0 → (es : List Event) →
+    noneOpens (history (stepOf unopenedCall (Opening r f own) .call) es) ≡ true →
+    Shown (run (stepOf unopenedCall (Opening r f own) .call) es) f (history (stepOf unopenedCall (Opening r f own) .call) es)) →
+    {c : Call} {f : ℕ} {h : List Step} → Since r c f h → Shown c f h
+since-shows r Shown law {c} {f} {h} s =
+    subst (λ (x : Call). Shown x f h) (sym (s .call))
+    (subst (λ (l : List Step). Shown (run (stepOf unopenedCall (Opening r f (s .own)) .call) (s .events)) f l) (sym (s .steps))
+    (law f (s .own) (s .taken) (s .events) (subst (λ (l : List Step). noneOpens l ≡ true) (s .steps) (s .none))))
 
 told : (es : List Event) (l : Line) → Traced unopenedCall es l → Told (run unopenedCall es) l
 told es unopened t = nothing-yet es t
-told es (originating f h) t = since-shows t
-told es destination t = tt
+told es (originating f h) t = since-shows 0 Shows billed t
+told es (destination f h) t = since-shows 1 ShowsThere shown-there t
 told es strange t = t
 
 pub line-billed : (es : List Event) → Told (run unopenedCall es) (line (history unopenedCall es))

@@ -7,20 +7,21 @@ use Prim.Native.Nat.{ℕ}
 use lib.Dec.{eqb}
 use borrow.Author.Tests.{eqb-true, eq-eqb}
 use Rattle.meters.specs.Meters.{changeOf}
+use Rattle.rows.specs.Bill.{anOpening}
 use Rattle.rows.specs.Find.{rowForOf}
 use Rattle.rows.specs.Perform.{refusedAt, refusedOf, performIf}
 use Rattle.rows.specs.Read.{askedOf, toldOf, heardOf, kindOf, readOf, cueOf, termsOf}
 use Rattle.rows.specs.Reasons.{Vacant, Timely, Looked, rowAt, HasRowIn, Never, OnlyElsewhere, OtherState, reason, SameComponent}
 use Rattle.rows.specs.Reasons.{no-component, an-invoke, a-result}
 use Rattle.rows.specs.Reasons.{an-error, a-reject, SameEvent, an-opening, a-request, a-message, an-access, an-expiry, a-time}
-use Rattle.rows.specs.Step.{ifRow, takesOf, ifInRange, isOpening, untimelyOf, inTime, ifTimely, ifCall, stepOf, mayOpen}
+use Rattle.rows.specs.Step.{ifRow, takenBy, takesOf, ifInRange, isOpening, untimelyOf, inTime, ifTimely, ifCall, stepOf, mayOpen}
 use Rattle.rows.specs.Valid.{pickℕ, placedOf, validOf, eventOk, badFieldOf}
 use Rattle.rows.specs.Why.{isRow, someState, somePhase, rowIn, rowEver, whyOf}
 use Rattle.rows.specs.declared.Call.{Call}
 use Rattle.rows.specs.declared.Component.{Component}
 use Rattle.rows.specs.declared.Cue.{Cue}
 use Rattle.rows.specs.declared.Event.{Event}
-use Rattle.rows.specs.declared.Event.the-variants.{Opening}
+use Rattle.rows.specs.declared.Event.the-variants.{Opening, Ask, Received, FromAccess, Expiry, Time}
 use Rattle.rows.specs.declared.Heard.{Heard}
 use Rattle.rows.specs.declared.Number.{Number}
 use Rattle.rows.specs.declared.Outcome.{Outcome}
@@ -35,10 +36,11 @@ use Rattle.rows.specs.declared.Role.{Role}
 use Rattle.rows.specs.declared.Role.the-variants.{Originating, Destination}
 use Rattle.rows.specs.declared.Row.{Row}
 use Rattle.rows.specs.declared.Row.the-variants.{NoRow}
-use Rattle.rows.proofs.Answers.{planFor, performed, settled, row-or-none, by-why, isUnopened}
+use Rattle.rows.proofs.Answers.{planFor, performed, settled, row-or-none, by-why, isUnopened, row-decides}
 use Rattle.rows.proofs.Found.{row-plans}
 use Rattle.rows.proofs.Progress.{valid-place}
 use Rattle.rows.proofs.Truth.{both, differ, either, left, or-true, right}
+use Rattle.rows.proofs.Whole.{after-clearing}
 
 -- ---- In its time: the test, and what it says
 
@@ -496,3 +498,47 @@ same-reason c d e f r p s v w k l z =
     ∙ ap (λ (x : RevState). reasonBy (d .side .role) (d .stand .phase) x (cueOf (readOf e)) (isOpening e)) s
     ∙ same-by (d .side .role) (d .stand .phase) (d .stand .rev) z
     ∙ sym (by-place d f w l)
+
+-- ---- A cleared call
+
+-- the bill's test of an opening is the rows'
+same-opening : (e : Event) → anOpening e ≡ isOpening e
+same-opening (Opening r f n) = refl
+same-opening (Ask q n) = refl
+same-opening (Received m) = refl
+same-opening (FromAccess a n) = refl
+same-opening Expiry = refl
+same-opening (Time s) = refl
+
+module _ (e : Event) (o : isOpening e ≡ false) where
+  no-opening : {A : Type 0} → anOpening e ≡ true → A
+  no-opening h = differ (sym o ∙ sym (same-opening e) ∙ h)
+
+  -- no event but an opening has a row there ..
+  none-cleared : (r : Role) (s : RevState) → rowAt r Cleared s e ≡ NoRow
+  none-cleared Originating s = after-clearing (λ (x : Row). x ≡ NoRow) e no-opening refl
+  none-cleared Destination s = after-clearing (λ (x : Row). x ≡ NoRow) e no-opening refl
+
+  -- .. in any REV state
+  none-in-cleared : (r : Role) → rowIn r Cleared (cueOf (readOf e)) ≡ false
+  none-in-cleared Originating =
+      after-clearing (λ (x : Row). someState (λ s. placedOf Originating Cleared s && isRow x) ≡ false) e no-opening refl
+  none-in-cleared Destination =
+      after-clearing (λ (x : Row). someState (λ s. placedOf Destination Cleared s && isRow x) ≡ false) e no-opening refl
+
+pub cleared-refuses : (c : Call) (e : Event) → validOf c ≡ true → eventOk e ≡ true → isOpening e ≡ false → c .stand .phase ≡ Cleared →
+    (stepOf c e .number ≡ 15) ⊎ (stepOf c e .number ≡ 1)
+cleared-refuses c e v k o p =
+    subst (λ (a : Outcome). (a .number ≡ 15) ⊎ (a .number ≡ 1)) (sym refused) (fifteen-or-one (rowEver (c .side .role) (cueOf (readOf e))))
+  where
+    refused : stepOf c e ≡ refusedOf (pickℕ (rowEver (c .side .role) (cueOf (readOf e))) 15 1) c
+    refused =
+        row-decides c e v (ap isUnopened p) o k
+        ∙ ap (λ (x : Row). takenBy x c (readOf e))
+        (ap (λ (q : Phase). rowAt (c .side .role) q (c .stand .rev) e) p ∙ none-cleared e o (c .side .role) (c .stand .rev))
+        ∙ ap (λ (q : Phase). refusedOf (whyOf (c .side .role) q (cueOf (readOf e))) c) p
+        ∙ ap (λ (b : Bool). refusedOf (pickℕ b 16 (pickℕ (rowEver (c .side .role) (cueOf (readOf e))) 15 1)) c) (none-in-cleared e o (c .side .role))
+
+    fifteen-or-one : (b : Bool) → (pickℕ b 15 1 ≡ 15) ⊎ (pickℕ b 15 1 ≡ 1)
+    fifteen-or-one true = inl refl
+    fifteen-or-one false = inr refl

@@ -1,25 +1,25 @@
 -- THE THEOREMS about the rows, each with its sentence, to be read alone. What they speak of is defined in specs/: Step.antt (`stepOf`,
 -- the answer to an event), Valid.antt (`validOf`, what is a call; `eventOk`, fields in range), History.antt (`run`, `history`: any list
 -- of events, refused ones among them), Bill.antt (demand 3), Reasons.antt (why there was no row, the first bad field) and Promises.antt
--- (the rest); `Shows` and `Told`, which say what the meters show of a bill, stand in Whole.antt and Opened.antt, and `Since`, the latest call
--- of a history, in Opened.antt. The files cited prove them.
+-- (the rest); `Shows`, `ShowsThere` and `Told`, which say what the meters show of a history, stand in Whole.antt, Destination.antt and
+-- Opened.antt, and `Since`, the latest call of a history, in Opened.antt. The files cited prove them.
 -- docs/STATEMENTS.md names a wrong program that each rules out.
 -- Assumes nothing.
 use mathlib.Core.Path.{_≡_, refl}
 use mathlib.Core.Bool.{Bool, true, false, _&&_, not}
 use mathlib.Core.List.{List, _++_}
-use mathlib.Core.Logic.{_↔_}
+use mathlib.Core.Logic.{_↔_, _⊎_}
 use Prim.Native.Nat.{ℕ, suc, _+_, _≤_}
 use lib.Dec.{eqb, leb}
 use Rattle.meters.specs.Meters.{newOf, sumOf}
 use Rattle.meters.specs.declared.Payer.the-variants.{Nobody}
-use Rattle.rows.specs.Bill.{bitAt, isAnswered, isRev, answered, Case, plain, marks, took, reversal, payer, bill, originating}
+use Rattle.rows.specs.Bill.{bitAt, isAnswered, isRev, answered, Case, plain, marks, took, reversal, payer, bill, originating, destination}
 use Rattle.rows.specs.Bill.{Step, pick, opens, noneOpens, line}
 use Rattle.rows.specs.History.{run, written, history, opening}
 use Rattle.rows.specs.Perform.{refusedAt}
 use Rattle.rows.specs.Promises.{NothingDone, AsFresh, noneIs, unpaid, Answering, runs, inCall, Clears, chargedBy, placeIn}
 use Rattle.rows.specs.Promises.{isFacility, tellsRunning, asksReversal, isInvoke, errorIs, toldRunning, sentRunning}
-use Rattle.rows.specs.Promises.{saysNoRow, requestHasRow, invokeHasRow}
+use Rattle.rows.specs.Promises.{saysNoRow, requestHasRow, invokeHasRow, given}
 use Rattle.rows.specs.Promises.{openingThere, secondsThere, noDuration, lastedIn, withTotal, totalFits}
 use Rattle.rows.specs.Promises.{reversals, Extends, OtherDigits, Redialled, AllRedialled, Renumbered, SameAnswer, numbers}
 use Rattle.rows.specs.Promises.{takesEffect, InEffect, PassedOn, Keeps, OnlyOwn, HoldsOrClears}
@@ -67,6 +67,14 @@ refusal-changes-nothing = Refusals.refusal-changes-nothing
 -- .. and is the refusal of its number and of the field that it names.
 pub refusal-is : (c : Call) (e : Event) → (stepOf c e .number ≡ 0 → ⊥) → stepOf c e ≡ refusedAt (stepOf c e .number) (stepOf c e .field) c
 refusal-is = Refusals.refusal-is
+
+-- A call gives back 0 to 4, 9, 10, 15 to 17 and 20 (`given`), and no other number ..
+pub never-given : (n : ℕ) → given n ≡ false → (c : Call) (e : Event) → stepOf c e .number ≡ n → ⊥
+never-given = Refusals.never-given
+
+-- .. so not 18, which 01 says "is given no more" (02 #107: "20 in 18's place").
+pub never-eighteen : (c : Call) (e : Event) → stepOf c e .number ≡ 18 → ⊥
+never-eighteen = Refusals.never-eighteen
 
 -- At a call, 17 is given for any event but an opening where the call was never opened, and 20 for an opening where it was opened and has not
 -- cleared, whatever the fields, and for nothing else ..
@@ -156,6 +164,12 @@ answered-left = Phases.answered-left
 -- No event but an opening may leave CLEARED.
 pub cleared-stays : (c : Call) (e : Event) → isOpening e ≡ false → c .stand .phase ≡ Cleared → stepOf c e .call .stand .phase ≡ Cleared
 cleared-stays = Phases.cleared-stays
+
+-- Any other event at it, with its fields in range, is refused: "an event at a cleared one gets 15 or 1". Which of both `fifteen-exactly` and
+-- `one-exactly` say.
+pub cleared-refuses : (c : Call) (e : Event) → validOf c ≡ true → eventOk e ≡ true → isOpening e ≡ false → c .stand .phase ≡ Cleared →
+    (stepOf c e .number ≡ 15) ⊎ (stepOf c e .number ≡ 1)
+cleared-refuses = Reasons.cleared-refuses
 
 -- ACTIVE is left by clearing alone: a step from it that stays in ANSWERED stays in ACTIVE.
 pub active-stays : (c : Call) (e : Event) → runs (c .stand) ≡ true → isAnswered (stepOf c e .call .stand .phase) ≡ true →
@@ -267,8 +281,9 @@ billed = Whole.billed
 pub opens-in-range : (f : ℕ) (own : Number) → eventOk (Opening 0 f own) ≡ true → opening f own .number ≡ 0
 opens-in-range = Whole.opens-in-range
 
--- The same of every history from before any opening, calls that were opened again among them: the meters show the bill of the steps after the
--- latest accepted opening (`line`), whatever the calls before it left; where none was accepted nothing has happened ..
+-- The same of every history from before any opening, calls that were opened again among them: the call has the role of the latest accepted
+-- opening (`line`), and its meters show the bill of the steps after that, or at a destination the seconds that those steps say, whatever the
+-- calls before it left; where none was accepted nothing has happened ..
 pub line-billed : (es : List Event) → Told (run unopenedCall es) (line (history unopenedCall es))
 line-billed = Opened.line-billed
 
@@ -278,8 +293,12 @@ early-refused = Opened.early-refused
 
 -- So what is said here of an opening and the events since holds of the latest call of any history: the call is the one that this opening
 -- made of a call that was never opened, after the events since (`Since`), and the bill's steps are theirs.
-pub latest-call : (c : Call) (es : List Event) (f : ℕ) (h : List Step) → line (history c es) ≡ originating f h → Since (run c es) f h
+pub latest-call : (c : Call) (es : List Event) (f : ℕ) (h : List Step) → line (history c es) ≡ originating f h → Since 0 (run c es) f h
 latest-call = Opened.latest-call
+
+-- So at a destination: `destination-seconds`, `destination-answered`, `destination-caller` and `total-there` hold of its latest call.
+pub latest-call-there : (c : Call) (es : List Event) (f : ℕ) (h : List Step) → line (history c es) ≡ destination f h → Since 1 (run c es) f h
+latest-call-there = Opened.latest-call-there
 
 -- Who pays now: in ANSWERED the payer who is charged is the one that the history since the latest opening names for the seconds to come.
 pub pays-now : (f : ℕ) (own : Number) → opening f own .number ≡ 0 → (es : List Event) → noneOpens (history (opening f own .call) es) ≡ true →

@@ -506,6 +506,16 @@ reached f {c} (e ∷ es) y n =
     (rest-unopening (written c e (stepOf c e)) (history (stepOf c e .call) es) n)
 
 -- the meters of a call that agrees are what is due
+agreed-role : {f : ℕ} {c : Call} {d : Mark} {o : Known} → Agrees f c d o → c .side .role ≡ Originating
+agreed-role null = refl
+agreed-role setup = refl
+agreed-role asked-A = refl
+agreed-role asked-D = refl
+agreed-role (talks y) = refl
+agreed-role (asked-B y) = refl
+agreed-role (turned y) = refl
+agreed-role (over y) = refl
+
 agreed-due : {f : ℕ} {c : Call} {d : Mark} {o : Known} → Agrees f c d o → Due (c .meters) o
 agreed-due null = (refl, refl, refl)
 agreed-due setup = (refl, refl, refl)
@@ -638,6 +648,8 @@ bill-times w f (s ∷ h) {d} i b = go (counted s) (bill-times w f h (waits-still
 
 -- what the meters of a call show, of a history and its opening's flags
 pub record Shows (c : Call) (f : ℕ) (h : List Step) : Type 0 where
+  -- the call is an originating one
+  pub role : c .side .role ≡ Originating
   -- each meter is what its payer owes
   pub caller : c .meters .caller ≡ owed Caller (bill f h)
   pub called : c .meters .called ≡ owed Called (bill f h)
@@ -651,12 +663,20 @@ agreed-shows : {f : ℕ} {c : Call} (es : List Event) → Agrees f c plain atFir
     Shows (run c es) f (history c es)
 agreed-shows {f} {c} es y n =
     let ms : List Mark = marks f plain (history c es) in
-    let h = agreed-due (reached f es y n) in
+    let z = reached f es y n in
+    let h = agreed-due z in
     let p = h .0 ∙ owed-due Caller ms in
     let q = h .1 ∙ owed-due Called ms in
     let r = h .2 ∙ owed-due Far ms in
     let t = bill-times (reversal ms) f (history c es) still false in
-    record { caller = p; called = q; far = r; each = t; all = omega (arith, p, q, r, shares (reversal ms) false ms, ap sum t) }
+    record {
+      role = agreed-role z;
+      caller = p;
+      called = q;
+      far = r;
+      each = t;
+      all = omega (arith, p, q, r, shares (reversal ms) false ms, ap sum t);
+    }
 
 -- an opening that was accepted
 opened : (f : ℕ) (own : Number) (b : Bool) → ifInRange b unopenedCall (Opening 0 f own) .number ≡ 0 →

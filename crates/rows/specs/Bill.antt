@@ -322,13 +322,13 @@ abbrev pub owed : Payer → List Paid → ℕ
 owed q [] = 0
 owed q (x ∷ xs) = pick (same q (x .by)) (x .seconds) 0 + owed q xs
 
--- ---- From before any opening, 02 #107: "Demands 2 and 3 hold for each slot from its latest accepted opening". The flags stand in that
--- opening's event, and the steps after it are the call's history
+-- ---- From before any opening, 02 #107: "Demands 2 and 3 hold for each slot from its latest accepted opening". Its role and flags stand in
+-- that opening's event, and the steps after it are the call's history: the bill's, and at a destination that of its seconds
 
 pub data Line : Type 0 where
   unopened : Line
   originating : ℕ → List Step → Line
-  destination : Line
+  destination : ℕ → List Step → Line
   strange : Line
 
 -- 01, kind 1
@@ -350,7 +350,7 @@ noneOpens [] = true
 noneOpens (s ∷ h) = not (opens s) && noneOpens h
 
 abbrev pub openedBy : Event → List Step → Line
-openedBy (Opening r f n) h = pick (eqb r 0) (originating f h) (pick (eqb r 1) destination strange)
+openedBy (Opening r f n) h = pick (eqb r 0) (originating f h) (pick (eqb r 1) (destination f h) strange)
 openedBy (Ask q n) h = strange
 openedBy (Received m) h = strange
 openedBy (FromAccess a n) h = strange
@@ -361,7 +361,7 @@ openedBy (Time s) h = strange
 abbrev pub laterOf : Line → Line → Line
 laterOf unopened l = l
 laterOf (originating f h) l = originating f h
-laterOf destination l = destination
+laterOf (destination f h) l = destination f h
 laterOf strange l = strange
 
 -- the latest accepted opening, and the steps after it

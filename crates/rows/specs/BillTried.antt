@@ -8,6 +8,7 @@ use Rattle.meters.specs.declared.Payer.the-variants.{Caller, Called, Far}
 use Rattle.rows.specs.Bill.{Paid, bill, Step, Line, unopened, originating, destination, strange, line}
 use Rattle.rows.specs.Telephone.{absent}
 use Rattle.rows.specs.History.{run, history, opening}
+use Rattle.rows.specs.Promises.{openingThere}
 use Rattle.rows.specs.Step.{unopenedCall}
 use Rattle.rows.specs.declared.Component.{Component}
 use Rattle.rows.specs.declared.Component.the-variants.{Absent, Invoke, Result}
@@ -94,7 +95,7 @@ not-allowed = refl
 abbrev billFrom : Line → List Paid
 billFrom unopened = []
 billFrom (originating f h) = bill f h
-billFrom destination = []
+billFrom (destination f h) = []
 billFrom strange = []
 
 abbrev billAfter : List Event → List Paid
@@ -115,6 +116,16 @@ opened-again = (refl, refl, refl)
 first-of-two : billAfter (Opening 0 9 room ∷ Ask 1 room ∷ message 2 (Result 1) 6 absent ∷ Time 40 ∷ FromAccess 4 0 ∷ Time 5 ∷ [])
     ≡ paid 40 Far ∷ []
 first-of-two = refl
+
+-- a slot that was an originating call's and is a destination's now: its flags, and the steps since; and the other way round, with every flag
+there-after-here : line (history unopenedCall (Opening 0 9 room ∷ Ask 0 room ∷ FromAccess 4 0 ∷ Opening 1 31 room ∷ Time 5 ∷ []))
+    ≡ destination 31 (history (openingThere 31 room .call) (Time 5 ∷ []))
+there-after-here = refl
+
+here-after-there : line (history unopenedCall
+    (Opening 1 9 room ∷ message 1 (Absent 0) 0 absent ∷ FromAccess 4 0 ∷ Opening 0 31 room ∷ Time 5 ∷ []))
+    ≡ originating 31 (history (opening 31 room .call) (Time 5 ∷ []))
+here-after-there = refl
 
 -- ---- Histories that these rows do not write: the bill names the payer from the steps alone
 

@@ -614,3 +614,11 @@ asBefore Cleared q = q
 abbrev pub chargedBy : Bool → Phase → Payer → Payer
 chargedBy true ph q = Called
 chargedBy false ph q = asBefore ph q
+
+-- ---- Which numbers a call gives back: proofs/Refusals.antt
+
+-- 01, "Numbers given back", 02 #106 and #107: 0; 1, 15, 16, 17 and 20, why no row was looked for or found; 3, a bad field; 4, a part that is
+-- absent; 9, no call; 10, nobody pays; 2, too much
+abbrev pub given : ℕ → Bool
+given n =
+    eqb n 0 || (eqb n 1 || (eqb n 2 || (eqb n 3 || (eqb n 4 || (eqb n 9 || (eqb n 10 || (eqb n 15 || (eqb n 16 || (eqb n 17 || eqb n 20)))))))))

@@ -42,7 +42,8 @@ fn reasons() -> Vec<String> {
             .to_vec();
     names.extend(["2 to 7", "8 to 29", "30 to 35"].map(|length| format!("5: kind 7 of length {length}, bytes lack")));
     names.extend(["alone", "and half a kind"].map(|kind| format!("5: a length of 30 to 35 {kind}")));
-    names.extend(["0", "1", "36", "37 to 255", "256 and more"].map(|length| format!("6: length {length}")));
+    let lengths = ["0", "1", "36, whole", "36, bytes lack", "37 to 255", "256 and more"];
+    names.extend(lengths.map(|length| format!("6: length {length}")));
     for kind in ["known", "unknown"] {
         names.extend(["whole", "bytes lack"].map(|rest| format!("6: a length of 30 to 35, {kind} kind, {rest}")));
     }
@@ -70,7 +71,8 @@ fn reason(rest: &[u8]) -> String {
         _ => "256 and more",
     };
     match (length, kind) {
-        (0..=1 | 36, _) => format!("6: length {length}"),
+        (0..=1, _) => format!("6: length {length}"),
+        (36, _) => format!("6: length 36, {}", if whole { "whole" } else { "bytes lack" }),
         (37..=255, _) => "6: length 37 to 255".into(),
         (256.., _) => "6: length 256 and more".into(),
         (30..=35, None) if rest.len() == 2 => "5: a length of 30 to 35 alone".into(),
@@ -194,6 +196,7 @@ impl Boards {
         );
         names.push("8, a file with slots of more than 65536 bytes".into());
         names.push("a file with slots of 65536 bytes".into());
+        names.push("a listing of 65534 bytes and more, with slots by a last record that gets 19".into());
         Boards { counts: names.into_iter().map(|name| (name, 0)).collect(), files: 0 }
     }
 
@@ -335,6 +338,11 @@ impl Boards {
                 self.hit(format!("the only record of kind 7 gets {given}"));
             }
         }
+        if let ([only], true) = (&named[..], listing.text.len() >= ROOM - 2) {
+            if listing.reached[*only].given == Given::NoSuchSlot {
+                self.hit("a listing of 65534 bytes and more, with slots by a last record that gets 19".into());
+            }
+        }
         if listing.text.len() >= ROOM - 1 {
             self.hit(format!("a listing of {} bytes with slots", listing.text.len()));
         }
@@ -380,7 +388,7 @@ mod tests {
             (&[29, 0, 7, 0], "5: kind 7 of length 8 to 29, bytes lack"),
             (&[7, 0, 7, 0, 0], "5: kind 7 of length 2 to 7, bytes lack"),
             (&[29, 0, 9, 0], "5: bytes of a plain record lack"),
-            (&[36, 0], "6: length 36"),
+            (&[36, 0], "6: length 36, bytes lack"),
             (&[0, 1], "6: length 256 and more"),
             (&[30, 0, 3, 0], "6: a length of 30 to 35, known kind, bytes lack"),
             (&[30, 0, 7, 1], "6: a length of 30 to 35, unknown kind, bytes lack"),

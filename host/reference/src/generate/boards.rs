@@ -236,7 +236,7 @@ fn broken(random: &mut Random) -> (Vec<u8>, bool) {
     let mut filler = |size: u64| (0..size).map(|_| random.byte()).collect::<Vec<u8>>();
     let head = |length: u8, kind: u16| [vec![length, 0], kind.to_le_bytes().to_vec()].concat();
     let (bytes, rest) = (filler(40), filler(600));
-    match random.below(28) {
+    match random.below(34) {
         // cut short: before the kind, in it, after it
         0 => (vec![random.byte()], false),
         1 => (whole[..2 + random.below(2) as usize].to_vec(), false),
@@ -244,16 +244,17 @@ fn broken(random: &mut Random) -> (Vec<u8>, bool) {
         2 => (longest[..2 + random.below(35) as usize].to_vec(), false),
         3 => (vec![30 + random.below(6) as u8, 0], false),
         4 => (vec![30 + random.below(6) as u8, 0, random.pick(&[7, 7, 3, 9])], false),
-        5 => {
+        5 | 29 => {
             let length = 2 + random.below(6) as usize;
             ([head(length as u8, 7), bytes[..random.below(length as u64 - 1) as usize].to_vec()].concat(), false)
         }
         // a length that none has
         6 => ([vec![random.below(2) as u8, 0], bytes[..4].to_vec()].concat(), true),
-        7 => {
-            let length: u16 = random.pick(&[36, 36, 37, 255, 256, 0x0108, 0x0702, 0xFFFF]);
+        7 | 27 | 28 => {
+            let length: u16 = random.pick(&[36, 36, 36, 36, 37, 255, 256, 0x0108, 0x0702, 0xFFFF]);
             let follow = usize::from(length.min(500));
-            ([length.to_le_bytes().to_vec(), vec![7], rest[..follow - 1].to_vec()].concat(), true)
+            let follow = if random.below(2) == 0 { follow } else { random.below(follow as u64) as usize };
+            ([length.to_le_bytes().to_vec(), [&[7, 0], &rest[..]].concat()[..follow].to_vec()].concat(), true)
         }
         // 30 to 35 with another kind, whole or not
         8..=9 | 26 => {
@@ -354,17 +355,15 @@ fn long_board(random: &mut Random) -> Vec<u8> {
     bytes
 }
 
-/// A listing about as long as the buffer, whose lines have slots: each record names one, or only the last, so that without it the
-/// listing would fit.
+/// A listing about as long as the buffer, whose lines have slots: each record names one; or only the last does, perhaps one that is not
+/// there, and without it the listing would fit.
 fn edge(random: &mut Random) -> Vec<u8> {
-    let (slot, last) = (slot(random), random.below(2) == 0);
-    edge_of_listing_of(random, |after, record| {
-        if after > 0 && last {
-            record
-        } else {
-            fields::in_slot(if last { 0 } else { slot }, &record)
-        }
-    })
+    if random.below(2) == 0 {
+        let slot = slot(random);
+        return edge_of_listing_of(random, |_, record| fields::in_slot(slot, &record));
+    }
+    let last = if random.below(2) == 0 { 0 } else { no_slot(random) };
+    edge_of_listing_of(random, |after, record| if after > 0 { record } else { fields::in_slot(last, &record) })
 }
 
 #[cfg(test)]

@@ -7,7 +7,7 @@ use native.Mathlib.Omega.{arith}
 use borrow.Author.Needs.{needs}
 use lib.ListN.{length}
 use Rattle.text.proofs.Laws.{put-length}
-use Rattle.files.proofs.Turns.{Listed, Found, listed-start, found-here, found-there, listed-on, listed-done, listed-names, loop-falls}
+use Rattle.files.proofs.Turns.{Listed, Found, listed-start, found-here, found-there, listed-by, listed-done, listed-names, frame-falls}
 use Rattle.files.proofs.listing.write.Statement.{statement}
 use Rattle.files.proofs.listing.write.Tie as tie
 
@@ -54,8 +54,9 @@ loop-again c =
     let q = p .before .before .before in
     let a = q .before .before .before in
     let j = a .before in
-    listed-on _ _ _ _ _ _ _ _ _ _ _ _ _ _ _ _ _ _ _ _ _ _ (held-now j) (j .before .before .before .before .loop-test .taken) (j .before .before .before .read-at .ensures) (j .before .before .slot-found .ensures .0)
-    (j .before .index-of .ensures .0) refl (a .answer .ensures) (c .before .before .before .before .before .before .names-slot .ensures) refl (q .put-record .ensures .0) (q .put-record .ensures .1) (p .place-after .ensures)
+    listed-by _ _ _ _ (j .before .before .before .before .loop-test .taken) (j .before .before .before .frame .ensures) (p .after-frame .ensures)
+    _ _ _ _ _ _ _ _ _ _ _ _ _ _ _ _ _ _ (held-now j) (j .before .before .slot-framed .ensures .0) (j .before .index-of .ensures .0) refl (a .answer .ensures)
+    (c .before .before .before .before .before .before .names-framed .ensures) refl (q .put-record .ensures .0) (q .put-record .ensures .1)
 
 returns : tie.Need-returns Inv-loop μ-loop
 returns c =
@@ -72,4 +73,4 @@ write-spec =
     (tie.spec
     Inv-loop
     μ-loop
-    (λ c. search needs) (λ c. λ κs. search needs) (λ c. λ κs. search needs) loop-holds (λ c. λ κs. search needs) (λ c. λ κs. search needs) (λ c. λ κs. search needs) (λ c. search needs) (λ c. search needs) (λ c. search needs) (λ c. search needs) (λ c. λ κs. search needs) add-count (λ c. λ κs. search needs) (λ c. search needs) put-record-requires (λ c. λ κs. search needs) (λ c. search (loop-falls)) loop-again (λ c. search needs) put-numbered-line-requires (λ c. put-length (returns c .0)) returns)
+    (λ c. search needs) (λ c. λ κs. search needs) (λ c. λ κs. search needs) loop-holds (λ c. λ κs. search needs) (λ c. λ κs. search needs) (λ c. λ κs. search needs) (λ c. search needs) (λ c. search needs) (λ c. search needs) (λ c. search needs) (λ c. λ κs. search needs) add-count (λ c. λ κs. search needs) (λ c. search needs) put-record-requires (λ c. λ κs. search needs) (λ c. search (frame-falls)) loop-again (λ c. search needs) put-numbered-line-requires (λ c. put-length (returns c .0)) returns)
