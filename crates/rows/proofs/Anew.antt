@@ -1,7 +1,7 @@
 -- AN OPENING STARTS ANEW (02 #107): where it may take a call, the answer and the call that follows are those of a call that was never opened.
 -- Assumes nothing.
 use mathlib.Core.Path.{_≡_, refl, sym, _∙_, ap, subst}
-use mathlib.Core.Bool.{Bool, true, false, _&&_}
+use mathlib.Core.Bool.{Bool, true, false}
 use mathlib.Core.Logic.{_↔_}
 use Prim.Native.Nat.{ℕ}
 use Rattle.rows.specs.Find.{rowForOf}

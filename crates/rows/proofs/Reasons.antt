@@ -14,7 +14,7 @@ use Rattle.rows.specs.Read.{askedOf, toldOf, heardOf, kindOf, readOf, cu
 use Rattle.rows.specs.Reasons.{Vacant, Timely, Looked, rowAt, HasRowIn, Never, OnlyElsewhere, OtherState, reason, SameComponent}
 use Rattle.rows.specs.Reasons.{no-component, an-invoke, a-result}
 use Rattle.rows.specs.Reasons.{an-error, a-reject, SameEvent, an-opening, a-request, a-message, an-access, an-expiry, a-time}
-use Rattle.rows.specs.Step.{ifRow, takenBy, takesOf, ifInRange, isOpening, untimelyOf, inTime, ifTimely, ifCall, stepOf, mayOpen}
+use Rattle.rows.specs.Step.{ifRow, takenBy, ifInRange, isOpening, untimelyOf, inTime, ifTimely, ifCall, stepOf, mayOpen}
 use Rattle.rows.specs.Valid.{pickℕ, placedOf, validOf, eventOk, badFieldOf}
 use Rattle.rows.specs.Why.{isRow, someState, somePhase, rowIn, rowEver, whyOf}
 use Rattle.rows.specs.declared.Call.{Call}

@@ -72,7 +72,7 @@ refusal-is = Refusals.refusal-is
 pub never-given : (n : ℕ) → given n ≡ false → (c : Call) (e : Event) → stepOf c e .number ≡ n → ⊥
 never-given = Refusals.never-given
 
--- .. so not 18, which 01 says "is given no more" (02 #107: "20 in 18's place").
+-- .. so not 18, which is given no more (02 #107: "20 in 18's place").
 pub never-eighteen : (c : Call) (e : Event) → stepOf c e .number ≡ 18 → ⊥
 never-eighteen = Refusals.never-eighteen
 
@@ -165,8 +165,7 @@ answered-left = Phases.answered-left
 pub cleared-stays : (c : Call) (e : Event) → isOpening e ≡ false → c .stand .phase ≡ Cleared → stepOf c e .call .stand .phase ≡ Cleared
 cleared-stays = Phases.cleared-stays
 
--- Any other event at it, with its fields in range, is refused: "an event at a cleared one gets 15 or 1". Which of both `fifteen-exactly` and
--- `one-exactly` say.
+-- Any other event at it, with its fields in range, is refused by 15 or 1. Which of both `fifteen-exactly` and `one-exactly` say.
 pub cleared-refuses : (c : Call) (e : Event) → validOf c ≡ true → eventOk e ≡ true → isOpening e ≡ false → c .stand .phase ≡ Cleared →
     (stepOf c e .number ≡ 15) ⊎ (stepOf c e .number ≡ 1)
 cleared-refuses = Reasons.cleared-refuses
