@@ -34,7 +34,7 @@ use Rattle.files.specs.Bodies.{numberValues, valuesOf, recordOf, entryOf
 use Rattle.files.specs.Dump.{dumpOf}
 use Rattle.files.specs.Fields.{numberFields, bytesOf}
 use Rattle.files.specs.Fit.{answers}
-use Rattle.files.specs.Listing.{namesSlots, listingOf}
+use Rattle.files.specs.Listing.{slotOf, namesSlots, listingOf}
 use Rattle.files.specs.Lines.{actionText}
 use Rattle.files.specs.Messages.{numberText}
 use Rattle.files.specs.Shown.{whole, contentsFrom, contentsOf, entriesOf, ownEvents, Shown, shownOf, eventsIn, oneListing}
@@ -43,7 +43,7 @@ use Rattle.files.specs.Words.{numberWord}
 use Rattle.files.specs.Write.{numberOf, bytesWritten, givesBack, numberWith, messageWith}
 use Rattle.files.specs.declared.Read.{Read}
 use Rattle.files.specs.declared.Where.{Where}
-use Rattle.files.specs.declared.Where.the-variants.{Slot}
+use Rattle.files.specs.declared.Where.the-variants.{Plain, Slot}
 use Rattle.files.specs.declared.Written.{Written}
 use Rattle.files.specs.declared.Written.the-variants.{Whole}
 use Rattle.files.proofs.Apart
@@ -81,6 +81,11 @@ pub last-line-billed : (s : List ℕ) (k : ℕ) (x : Shown) → getElem? (shownO
 last-line-billed = Billed.last-line-billed
 
 -- ---- The board (02 #107)
+
+-- A record of kind 7 acts at the slot that it names, whichever that is, and a plain one at slot 0 (`slotOf`, by which an entry is answered and
+-- shown).
+pub acts-where-named : (i : ℕ) → (slotOf (Slot i) ≡ i) × (slotOf Plain ≡ 0)
+acts-where-named i = (refl, refl)
 
 -- Slots are shown exactly where a record of kind 7 is read before the reading stops, whatever it is answered; then on every line, else on none
 -- (`shownText`, by one answer for all).

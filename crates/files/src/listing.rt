@@ -37,6 +37,7 @@ fn slot_of(w: Where) -> usize
     }
 }
 
+// The same by its frame: of one that cannot be read it is slot 0 that shows.
 fn slot_framed(f: Frame) -> usize
     ensures { λ r. ⌜ (r ≡ slotFramed f) × (r < 65536) ⌝ }
 {
@@ -56,7 +57,7 @@ fn after_frame(f: Frame, stay: usize) -> usize
     }
 }
 
-// Its place in the row of a listing: past the last slot stands a call that is never opened.
+// The place of a slot in the row of a listing: past the last slot stands a call that is never opened.
 fn index_of(slot: usize) -> usize
     ensures { λ r. ⌜ (r ≡ indexOf slot) × (r < 65) ⌝ }
 {
@@ -67,7 +68,7 @@ fn index_of(slot: usize) -> usize
 }
 
 // The answer of a slot's call to the record at a place, by its frame: one that cannot be read is refused with its number. The event is read
-// here, where it is answered, so that no record of it is handed on.
+// here, where it is answered, so that it is not handed on.
 fn answer(file: &[u8], at: usize, f: Frame, there: bool, call: Call) -> Outcome
     requires { ⌜ at < 2 ^ 63 ⌝ }
     ensures { λ r. ⌜ r ≡ answerOf (readBy (now (file .entry)) at f) there call ⌝ }
