@@ -11,14 +11,19 @@ use native.Mathlib.Omega.{arith}
 use lib.Dec.{eqb, ltb}
 use lib.ListN.{length, getD, getElem?, replicate}
 use borrow.Author.Tests.{ltb-true, ltb-false, eqb-true, eqb-false}
-use Rattle.rows.specs.Bill.{pick, Step}
+use Rattle.meters.specs.declared.Payer.the-variants.{Nobody}
+use Rattle.rows.proofs.Payers.{answered-paid}
+use Rattle.rows.proofs.Stays.{calls-stay}
+use Rattle.rows.specs.Bill.{pick, Step, isAnswered}
 use Rattle.rows.specs.History.{run, written, history}
 use Rattle.rows.specs.Step.{unopenedCall, stepOf}
+use Rattle.rows.specs.Valid.{validOf}
 use Rattle.rows.specs.declared.Call.{Call}
 use Rattle.rows.specs.declared.Event.{Event}
+use Rattle.rows.specs.declared.Phase.the-variants.{Answered}
 use Rattle.board.specs.Numbers.{slots}
 use Rattle.board.specs.Row.{answerAt, rowAfter, Named, runRow, ownOf, stepsAt, emptyRow}
-use Rattle.board.proofs.Laws.{placed-is, other-slots, own-slot, answer-is, row-length, past-63}
+use Rattle.board.proofs.Laws.{some-is, placed-is, other-slots, own-slot, answer-is, row-length, past-63}
 
 -- the row has the call that its own event led to, or, where the event was another slot's, the call that it had
 own-next : (cs : List Call) (x : Named) (i : ℕ) (c : Call) → i < slots → getElem? cs i ≡ some c → (b : Bool) → eqb (x .slot) i ≡ b →
@@ -118,3 +123,15 @@ program-slots xs i s = (
   slot-runs emptyRow xs i unopenedCall s (empty-slot i s),
   slot-history emptyRow xs i unopenedCall s (empty-slot i s),
 )
+
+-- ---- Somebody pays in each slot
+
+pub slot-pays : (cs : List Call) (xs : List Named) (i : ℕ) (c d : Call) → i < slots → getElem? cs i ≡ some c → validOf c ≡ true →
+    getElem? (runRow cs xs) i ≡ some d → d .stand .phase ≡ Answered → d .meters .payer ≡ Nobody → ⊥
+slot-pays cs xs i c d s h v g a =
+    let e : d ≡ run c (ownOf i xs) = some-is (sym g ∙ slot-runs cs xs i c s h) in
+    answered-paid d (subst (λ (x : Call). validOf x ≡ true) (sym e) (calls-stay c (ownOf i xs) v)) (ap isAnswered a)
+
+pub program-pays : (xs : List Named) (i : ℕ) (d : Call) → i < slots → getElem? (runRow emptyRow xs) i ≡ some d →
+    d .stand .phase ≡ Answered → d .meters .payer ≡ Nobody → ⊥
+program-pays xs i d s = slot-pays emptyRow xs i unopenedCall d s (empty-slot i s) refl

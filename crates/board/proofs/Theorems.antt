@@ -11,13 +11,15 @@ use mathlib.Core.Logic.{_↔_}
 use mathlib.Core.Option.{some}
 use Prim.Native.Nat.{ℕ, _≤_, _<_, zero-le}
 use lib.ListN.{length, getElem?, set}
+use Rattle.meters.specs.declared.Payer.the-variants.{Nobody}
 use Rattle.rows.specs.History.{run, history}
 use Rattle.rows.specs.Step.{unopenedCall, freeOf, stepOf}
-use Rattle.rows.specs.Valid.{eventOk}
+use Rattle.rows.specs.Valid.{validOf, eventOk}
 use Rattle.rows.specs.declared.Call.{Call}
 use Rattle.rows.specs.declared.Event.{Event}
 use Rattle.rows.specs.declared.Event.the-variants.{Opening}
 use Rattle.rows.specs.declared.Number.{Number}
+use Rattle.rows.specs.declared.Phase.the-variants.{Answered}
 use Rattle.board.specs.Promises.{LowestAt, NoneFree, Matters, allInUse, freedAt}
 use Rattle.board.specs.Row.{noSlot, answerAt, rowAfter, freeNumber, lowestFree, Named, runRow, ownOf, stepsAt, emptyRow}
 use Rattle.board.specs.declared.Free.the-variants.{At, Nowhere}
@@ -133,3 +135,14 @@ past-stays = Runs.past-stays
 pub program-slots : (xs : List Named) (i : ℕ) → i < 64 →
     (getElem? (runRow emptyRow xs) i ≡ some (run unopenedCall (ownOf i xs))) × (stepsAt i emptyRow xs ≡ history unopenedCall (ownOf i xs))
 program-slots = Runs.program-slots
+
+-- Somebody pays (02 #108), for every slot: whatever the events, and whatever the other slots hold, a slot that held a call holds none that is
+-- ANSWERED with nobody as payer ..
+pub slot-pays : (cs : List Call) (xs : List Named) (i : ℕ) (c d : Call) → i < 64 → getElem? cs i ≡ some c → validOf c ≡ true →
+    getElem? (runRow cs xs) i ≡ some d → d .stand .phase ≡ Answered → d .meters .payer ≡ Nobody → ⊥
+slot-pays = Runs.slot-pays
+
+-- .. so no slot of the program's row ever does.
+pub program-pays : (xs : List Named) (i : ℕ) (d : Call) → i < 64 → getElem? (runRow emptyRow xs) i ≡ some d →
+    d .stand .phase ≡ Answered → d .meters .payer ≡ Nobody → ⊥
+program-pays = Runs.program-pays

@@ -1,21 +1,28 @@
 -- The numbers on a listing's lines: 5, 6 or 7 where a record cannot be read, 19 where there is no such slot, and else the number of an
 -- answer of the slot's own call.
 -- Assumes nothing.
-use mathlib.Core.Path.{_≡_, sym, subst}
+use mathlib.Core.Path.{_≡_, refl, sym, subst, ap, _∙_}
+use mathlib.Core.Bool.{true, false, not}
 use mathlib.Core.List.{List}
 use mathlib.Core.Logic.{_⊎_, inl, inr}
 use mathlib.Core.Option.{some}
 use Prim.Native.Nat.{ℕ, _≤_}
 use native.Mathlib.Omega.{arith}
+use borrow.Author.Tests.{eqb-true, eqb-false}
+use lib.Dec.{eqb}
 use lib.ListN.{take, getElem?}
 use Rattle.text.proofs.Cases.{both-lt, both-eq}
+use Rattle.rows.proofs.Refusals.{all-given}
+use Rattle.rows.proofs.Stays.{nine-exactly, calls-stay, unopened-valid}
+use Rattle.rows.proofs.Truth.{differ, either}
 use Rattle.rows.specs.History.{run}
+use Rattle.rows.specs.Promises.{given}
 use Rattle.rows.specs.Step.{stepOf, unopenedCall}
 use Rattle.rows.specs.declared.Event.{Event}
 use Rattle.rows.specs.declared.Outcome.{Outcome}
 use Rattle.board.specs.Row.{answerAt}
 use Rattle.board.proofs.Theorems.{past-63}
-use Rattle.files.specs.Shown.{entriesOf, rowAt, ownEvents, Shown, shownOf, AnswersEntry, RefusesRecord}
+use Rattle.files.specs.Shown.{entriesOf, rowAt, ownEvents, Shown, shownOf, AnswersEntry, RefusesRecord, onALine}
 use Rattle.files.specs.Typed.{Entry}
 use Rattle.files.proofs.Shown.{kth-shown, slot-answer}
 
@@ -40,3 +47,33 @@ numbers-hold P a b c d each s k x h = by (kth-shown s k x h .1)
     by : AnswersEntry s k (x .slot) (x .answer) ⊎ RefusesRecord s k (x .slot) (x .answer) → P (x .answer .number)
     by (inl (y, g, p, q)) = subst (λ (o : Outcome). P (o .number)) (sym q) (at-slot (x .slot) (take k (entriesOf s)) (y .event))
     by (inr (n, p, q, w, l, m, r)) = subst (λ (o : Outcome). P (o .number)) (sym r) (five-to-seven n p q)
+
+-- no answer to a history from before an opening is 9
+not-nine : (es : List Event) (e : Event) → eqb (stepOf (run unopenedCall es) e .number) 9 ≡ false
+not-nine es e = nine-exactly (run unopenedCall es) e ∙ ap not (calls-stay unopenedCall es unopened-valid)
+
+pub no-nine : (s : List ℕ) (k : ℕ) (x : Shown) → getElem? (shownOf s) k ≡ some x → x .answer .number ≡ 9 → ⊥
+no-nine =
+    numbers-hold (λ (n : ℕ). n ≡ 9 → ⊥) (λ e. omega arith) (λ e. omega arith) (λ e. omega arith) (λ e. omega arith)
+    (λ es e. eqb-false _ 9 (not-nine es e))
+
+-- what a call gives, but 9, may stand on a line
+call-listed : (n : ℕ) → given n ≡ true → eqb n 9 ≡ false → onALine n ≡ true
+call-listed n g h =
+    either (eqb n 0) _ g (is 0 refl) λ g.
+    either (eqb n 1) _ g (is 1 refl) λ g.
+    either (eqb n 2) _ g (is 2 refl) λ g.
+    either (eqb n 3) _ g (is 3 refl) λ g.
+    either (eqb n 4) _ g (is 4 refl) λ g.
+    either (eqb n 9) _ g (λ i. differ (sym h ∙ i)) λ g.
+    either (eqb n 15) _ g (is 15 refl) λ g.
+    either (eqb n 16) _ g (is 16 refl) λ g.
+    either (eqb n 17) _ g (is 17 refl) (is 20 refl)
+  where
+    is : (k : ℕ) → onALine k ≡ true → eqb n k ≡ true → onALine n ≡ true
+    is k z i = ap onALine (eqb-true n k i) ∙ z
+
+pub numbers-listed : (s : List ℕ) (k : ℕ) (x : Shown) → getElem? (shownOf s) k ≡ some x → onALine (x .answer .number) ≡ true
+numbers-listed =
+    numbers-hold (λ (n : ℕ). onALine n ≡ true) refl refl refl refl
+    (λ es e. call-listed (stepOf (run unopenedCall es) e .number) (all-given (run unopenedCall es) e) (not-nine es e))

@@ -13,7 +13,6 @@ use mathlib.Core.Path.{_≡_, refl, _∙_, ap}
 use mathlib.Core.Bool.{Bool, true, false, not}
 use Prim.Native.Nat.{ℕ, _+_, _-_, _≤_, _<_}
 use native.Mathlib.Omega.{arith}
-use borrow.Author.Tests.{eqb-false}
 use lib.ListN.{length, take, drop, getElem?}
 use Rattle.rows.specs.Bill.{line}
 use Rattle.rows.specs.History.{run, history}
@@ -28,8 +27,6 @@ use Rattle.rows.specs.declared.Number.{Number}
 use Rattle.text.specs.Choose.{ifSo}
 use Rattle.text.specs.Value.{NoDigit}
 use Rattle.rows.proofs.Opened.{Told}
-use Rattle.rows.proofs.Payers.{ten-for-the-unpaid, paid-on}
-use Rattle.rows.proofs.Stays.{nine-exactly, calls-stay, unopened-valid}
 use Rattle.files.specs.Bodies.{numberValues, valuesOf, recordOf, entryOf, readAt}
 use Rattle.files.specs.Dump.{dumpOf}
 use Rattle.files.specs.Fields.{numberFields, bytesOf}
@@ -37,7 +34,7 @@ use Rattle.files.specs.Fit.{answers}
 use Rattle.files.specs.Listing.{slotOf, namesSlots, listingOf}
 use Rattle.files.specs.Lines.{actionText}
 use Rattle.files.specs.Messages.{numberText}
-use Rattle.files.specs.Shown.{whole, contentsFrom, contentsOf, entriesOf, ownEvents, Shown, shownOf, eventsIn, oneListing}
+use Rattle.files.specs.Shown.{whole, contentsFrom, contentsOf, entriesOf, ownEvents, Shown, shownOf, eventsIn, oneListing, onALine}
 use Rattle.files.specs.Typed.{AllBytes, TypedNumber, Typed, TypedWhere, Entry, Writable, fileOf}
 use Rattle.files.specs.Words.{numberWord}
 use Rattle.files.specs.Write.{numberOf, bytesWritten, givesBack, numberWith, messageWith}
@@ -53,7 +50,7 @@ use Rattle.files.proofs.Billed.{Gets, Line}
 use Rattle.files.proofs.BothWays
 use Rattle.files.proofs.BothWays.{FoundIn}
 use Rattle.files.proofs.Eight
-use Rattle.files.proofs.GivenBack.{numbers-hold}
+use Rattle.files.proofs.GivenBack
 use Rattle.files.proofs.HostWrites
 use Rattle.files.proofs.HostWrites.{Writes, Hands}
 use Rattle.files.proofs.OneCall
@@ -105,15 +102,11 @@ all-read = Shown.all-read
 
 -- No file meets 9 ..
 pub no-nine : (s : List ℕ) (k : ℕ) (x : Shown) → getElem? (shownOf s) k ≡ some x → x .answer .number ≡ 9 → ⊥
-no-nine =
-    numbers-hold (λ (n : ℕ). n ≡ 9 → ⊥) (λ e. omega arith) (λ e. omega arith) (λ e. omega arith) (λ e. omega arith)
-    (λ es e. eqb-false _ 9 (nine-exactly (run unopenedCall es) e ∙ ap not (calls-stay unopenedCall es unopened-valid)))
+no-nine = GivenBack.no-nine
 
--- .. and none meets 10.
-pub no-ten : (s : List ℕ) (k : ℕ) (x : Shown) → getElem? (shownOf s) k ≡ some x → x .answer .number ≡ 10 → ⊥
-no-ten =
-    numbers-hold (λ (n : ℕ). n ≡ 10 → ⊥) (λ e. omega arith) (λ e. omega arith) (λ e. omega arith) (λ e. omega arith)
-    (λ es e. eqb-false _ 10 (ten-for-the-unpaid (run unopenedCall es) e (paid-on unopenedCall es refl)))
+-- .. and on no line stands a number but 0 to 7, 15 to 17, 19 and 20 (`onALine`).
+pub numbers-listed : (s : List ℕ) (k : ℕ) (x : Shown) → getElem? (shownOf s) k ≡ some x → onALine (x .answer .number) ≡ true
+numbers-listed = GivenBack.numbers-listed
 
 -- ---- 8 is never a length
 

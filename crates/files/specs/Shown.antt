@@ -2,10 +2,11 @@
 -- that the listing is the text of this, and that the meters on a slot's line are the bill of that slot's own events.
 -- Assumes nothing.
 use mathlib.Core.Path.{_≡_}
-use mathlib.Core.Bool.{Bool, false}
+use mathlib.Core.Bool.{Bool, false, _&&_, _||_}
 use mathlib.Core.List.{List, [], _∷_, _++_}
 use mathlib.Core.Option.{some}
 use Prim.Native.Nat.{ℕ, zero, suc, _+_, _≤_}
+use lib.Dec.{leb}
 use lib.ListN.{length, take, getD, getElem?}
 use Rattle.meters.specs.declared.Payer.the-variants.{Caller, Called, Far}
 use Rattle.text.specs.Choose.{ifEq}
@@ -135,3 +136,7 @@ oneRest n c (e ∷ es) ending = recordText (n + 1) false 0 (stepOf c e) ++ oneRe
 
 unfoldable pub oneListing : List Event → Ending → List ℕ
 oneListing es ending = ascii "REV 1\n" ++ oneRest 0 unopenedCall es ending
+
+-- The numbers that may stand on a line: 0 to 7, 15 to 17, 19 and 20. 8 is of the whole listing, 9 and 21 are a host's, and 11 to 14 the wire's
+abbrev pub onALine : ℕ → Bool
+onALine n = leb n 7 || ((leb 15 n && leb n 17) || (leb 19 n && leb n 20))

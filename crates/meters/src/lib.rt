@@ -2,8 +2,8 @@
 // A meter counts the seconds that somebody pays; the total counts those that passed in the answered call, whoever pays them, so that
 // neither a Duration received nor a move between meters touches it. Nothing here knows of roles, messages or prices.
 ghost use mathlib.Core.Path.{_≡_};
-ghost use Rattle.meters.specs.Meters.{newOf, withinOf, totalWithinOf, addsUpOf, paidByOf, addsOf, chargeOf, lastsOf, giveOf};
-ghost use Rattle.meters.specs.Meters.{entireOf, receivedOf, changeOf};
+ghost use Rattle.meters.specs.Meters.{newOf, withinOf, totalWithinOf, addsUpOf, paidByOf, addsOf, giveOf, entireOf, receivedOf};
+ghost use Rattle.meters.specs.Meters.{changeOf};
 
 // 01, number 2: no sum of meters, and no Duration that a row uses, may pass this many seconds; 02 #104: nor may the total.
 const LIMIT: u64 = 31536000;
@@ -39,10 +39,9 @@ pub enum Change {
     DurationReceived,
 }
 
-// What a change gives: the meters that follow, or why there are none.
+// What a change gives: the meters that follow, or that a limit would be passed.
 pub enum Metered {
     Done(Meters),
-    NoPayer,
     TooMuch,
 }
 
@@ -94,72 +93,47 @@ impl Meters {
         }
     }
 
-    // Seconds onto each meter, unless the sum would then pass the limit. Only here does a meter grow.
-    fn adds(self, caller: u32, called: u32, far: u32) -> Metered
-        ensures { λ out. ⌜ out ≡ addsOf self caller called far ⌝ }
+    // Seconds onto each meter, and those that the call has lasted onto the total, unless the sum or the total would then pass the limit. Only
+    // here does either grow.
+    fn adds(self, caller: u32, called: u32, far: u32, lasted: u32) -> Metered
+        ensures { λ out. ⌜ out ≡ addsOf self caller called far lasted ⌝ }
     {
         let payer = self.payer;
-        let held = (self.caller as u64) + (self.called as u64) + (self.far as u64);
+        let sum = (self.caller as u64) + (self.called as u64) + (self.far as u64);
         let more = (caller as u64) + (called as u64) + (far as u64);
-        if held + more <= LIMIT {
-            Metered::Done(Meters {
-                caller: self.caller + caller,
-                called: self.called + called,
-                far: self.far + far,
-                payer: payer,
-                total: self.total,
-            })
-        } else {
-            Metered::TooMuch
+        let total = (self.total as u64) + (lasted as u64);
+        if LIMIT < sum + more {
+            return Metered::TooMuch;
         }
+        if LIMIT < total {
+            return Metered::TooMuch;
+        }
+        Metered::Done(Meters {
+            caller: self.caller + caller,
+            called: self.called + called,
+            far: self.far + far,
+            payer: payer,
+            total: self.total + lasted,
+        })
     }
 
-    // The payer's meter takes all of the seconds.
-    fn charge(self, seconds: u32) -> Metered
-        ensures { λ out. ⌜ out ≡ chargeOf self seconds ⌝ }
-    {
-        let payer = self.payer;
-        match payer {
-            Payer::Nobody => Metered::NoPayer,
-            Payer::Caller => self.adds(seconds, 0, 0),
-            Payer::Called => self.adds(0, seconds, 0),
-            Payer::Far => self.adds(0, 0, seconds),
-        }
-    }
-
-    // The answered call has lasted so many seconds more, unless its total would then pass the limit. Only here does the total grow.
-    fn lasts(self, seconds: u32) -> Metered
-        ensures { λ out. ⌜ out ≡ lastsOf self seconds ⌝ }
-    {
-        let payer = self.payer;
-        if (self.total as u64) + (seconds as u64) <= LIMIT {
-            Metered::Done(Meters {
-                caller: self.caller,
-                called: self.called,
-                far: self.far,
-                payer: payer,
-                total: self.total + seconds,
-            })
-        } else {
-            Metered::TooMuch
-        }
-    }
-
-    // Time passes in the answered call: its payer is charged for it, and the total has it too.
+    // Time passes in the answered call: the payer's meter takes all of the seconds, and the total has them too. Where nobody pays no meter
+    // runs.
     pub fn give(self, seconds: u32) -> Metered
         ensures { λ out. ⌜ out ≡ giveOf self seconds ⌝ }
     {
-        let charged = self.charge(seconds);
-        match charged {
-            Metered::Done(m) => m.lasts(seconds),
-            Metered::NoPayer => Metered::NoPayer,
-            Metered::TooMuch => Metered::TooMuch,
+        let payer = self.payer;
+        match payer {
+            Payer::Nobody => Metered::Done(self),
+            Payer::Caller => self.adds(seconds, 0, 0, seconds),
+            Payer::Called => self.adds(0, seconds, 0, seconds),
+            Payer::Far => self.adds(0, 0, seconds, seconds),
         }
     }
 
-    // Case C: the caller's meter is emptied, and its seconds go to the payer of the entire call.
-    pub fn entire(self, payer: Payer) -> Metered
-        ensures { λ out. ⌜ out ≡ entireOf self payer ⌝ }
+    // Case C: another payer, and the caller's meter is emptied for the called user's or the far exchange's.
+    fn entire(self, payer: Payer, called: u32, far: u32) -> Metered
+        ensures { λ out. ⌜ out ≡ entireOf self payer called far ⌝ }
     {
         let emptied = Meters {
             caller: 0,
@@ -168,7 +142,7 @@ impl Meters {
             payer: payer,
             total: self.total,
         };
-        emptied.charge(self.caller)
+        emptied.adds(0, called, far, 0)
     }
 
     // Case C in transfer mode, at the destination: on the meters the Duration received stands for all seconds so far. The total has this
@@ -183,7 +157,7 @@ impl Meters {
             payer: Payer::Called,
             total: self.total,
         };
-        emptied.charge(duration)
+        emptied.adds(0, duration, 0, 0)
     }
 
     // One change, with the seconds that passed or were received.
@@ -197,8 +171,8 @@ impl Meters {
             Change::CalledPays => Metered::Done(self.paid_by(Payer::Called)),
             Change::FarPays => Metered::Done(self.paid_by(Payer::Far)),
             Change::NobodyPays => Metered::Done(self.paid_by(Payer::Nobody)),
-            Change::EntireToCalled => self.entire(Payer::Called),
-            Change::EntireToFar => self.entire(Payer::Far),
+            Change::EntireToCalled => self.entire(Payer::Called, self.caller, 0),
+            Change::EntireToFar => self.entire(Payer::Far, 0, self.caller),
             Change::TimePasses => self.give(seconds),
             Change::DurationReceived => self.received(seconds),
         }

@@ -6,7 +6,7 @@ use Prim.Native.Nat.{ℕ}
 use lib.Dec.{eqb}
 use borrow.Author.Tests.{eq-eqb, ne-eqb}
 use Rattle.meters.specs.declared.Metered.{Metered}
-use Rattle.meters.specs.declared.Metered.the-variants.{Done, NoPayer, TooMuch}
+use Rattle.meters.specs.declared.Metered.the-variants.{Done, TooMuch}
 use Rattle.meters.specs.declared.Meters.{Meters}
 use Rattle.rows.specs.Find.{rowForOf}
 use Rattle.rows.specs.Perform.{refusedAt, refusedOf, followsOf, settledOf, performOf}
@@ -36,12 +36,11 @@ use Rattle.rows.specs.declared.Row.the-variants.{ActiveRefused, ActiveRe
 use Rattle.rows.specs.declared.Terms.{Terms}
 use Rattle.rows.proofs.Truth.{differ}
 
--- 10 and 2 are refusals; else the meters that follow are those of the change
+-- 2 is a refusal; else the meters that follow are those of the change
 pub settled : (P : Outcome → Type 0) (x : Metered) (c : Call) (p : Plan) (r : Reading) →
-    ((n : Meters) → x ≡ Done n → P (followsOf c p r n)) → P (refusedOf 10 c) → P (refusedOf 2 c) → P (settledOf x c p r)
-settled P (Done n) c p r h i j = h n refl
-settled P NoPayer c p r h i j = i
-settled P TooMuch c p r h i j = j
+    ((n : Meters) → x ≡ Done n → P (followsOf c p r n)) → P (refusedOf 2 c) → P (settledOf x c p r)
+settled P (Done n) c p r h i = h n refl
+settled P TooMuch c p r h i = i
 
 -- the plan of the row that an event finds, and what comes of it
 abbrev pub planFor : Call → Event → Plan

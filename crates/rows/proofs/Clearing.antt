@@ -201,7 +201,6 @@ module _ (c : Call) (r : Reading) where
       settled (Charged true) (receivedOf (c .meters) (r .seconds)) c (Rows.calledAccepted Entire Transfer true true) r
       (λ n e z. let g = received (c .meters) n (r .seconds) e in g .payer)
       (λ z. absurd (omega (arith, z)))
-      (λ z. absurd (omega (arith, z)))
   accepted-charges true true false false h = λ z. differ h
   accepted-charges true false b d h = λ z. differ h
 

@@ -8,7 +8,7 @@ use Prim.Native.Nat.{ℕ, _+_, _≤_}
 use native.Mathlib.Omega.{arith}
 use lib.Dec.{eqb, leb}
 use borrow.Author.Tests.{eqb-true, eqb-false, eq-eqb, leb-true}
-use Rattle.meters.proofs.Laws.{Gave, gave, received}
+use Rattle.meters.proofs.Laws.{gave, received}
 use Rattle.meters.specs.Meters.{newOf, paidByOf, giveOf, receivedOf}
 use Rattle.meters.specs.declared.Metered.the-variants.{Done}
 use Rattle.meters.specs.declared.Meters.{Meters}
@@ -61,7 +61,7 @@ use Rattle.rows.specs.declared.Row.{Row}
 use Rattle.rows.proofs.Found.{split, fork, guarded}
 use Rattle.rows.proofs.Truth.{differ, left, right, neither-left, neither-right}
 use Rattle.rows.proofs.Answers.{performed, settled}
-use Rattle.rows.proofs.Stays.{not-callers}
+use Rattle.rows.proofs.Stays.{not-callers, somebody}
 use Rattle.rows.proofs.Whole.{by-kind, Unopening, first-unopening, rest-unopening}
 
 -- ---- The invariant: a call agrees with the request remembered (w) and the seconds that the history says (x)
@@ -121,8 +121,9 @@ Fine f b g c w x e row = Does f b g c w x e (planOf row (termsOf (c .side .flags
 
 -- ---- What the meters promise
 
-ticks : {m n : Meters} {x s : ℕ} → Right m x → Gave m n (m .payer) s s → Right n (x + s)
-ticks {m} {n} {x} {s} z g =
+ticks : {m n : Meters} {x : ℕ} (s : ℕ) → Right m x → giveOf m s ≡ Done n → Right n (x + s)
+ticks {m} {n} {x} s z h =
+    let g = gave m n s (somebody Destination (m .payer) (z .there)) h in
     let p = not-callers (m .payer) s (z .there) in
     record { there = ap payerThere (g .payer) ∙ z .there; sums = record { caller = omega arith; both = omega arith } }
 
@@ -188,7 +189,7 @@ module _ (f : ℕ) (u v z : Number) (a b : Bool) (l : Message) {m : Meters} {x :
   accepted-BC true true true d = turned (switches Called refl (y .sums))
   accepted-BC true true false true =
       settled (Good f b true (at f u v z Answered WaitCalled a false m) true x (Received l)) (receivedOf m (l .duration)) _ _ _
-      (λ n h. turned (receives-duration (l .duration) (y .sums) h)) (asked y) (asked y)
+      (λ n h. turned (receives-duration (l .duration) (y .sums) h)) (asked y)
   accepted-BC true true false false = search states
   accepted-BC true false true d = search states
   accepted-BC true false false d = search states
@@ -427,13 +428,13 @@ passes f s asked-A = search states
 passes f s asked-D = search states
 passes f s waits = search states
 passes f s {c} {w} {x} (talks {m = m} y) =
-    settled (Good f false false c w x (Time s)) (giveOf m s) _ _ _ (λ n h. talks (ticks y (gave m n s h))) (search states) (search states)
+    settled (Good f false false c w x (Time s)) (giveOf m s) _ _ _ (λ n h. talks (ticks s y h)) (search states)
 passes f s {c} {w} {x} (asked-B {m = m} y) =
-    settled (Good f false false c w x (Time s)) (giveOf m s) _ _ _ (λ n h. asked-B (ticks y (gave m n s h))) (search states) (search states)
+    settled (Good f false false c w x (Time s)) (giveOf m s) _ _ _ (λ n h. asked-B (ticks s y h)) (search states)
 passes f s {c} {w} {x} (asked {m = m} y) =
-    settled (Good f false false c w x (Time s)) (giveOf m s) _ _ _ (λ n h. asked (ticks y (gave m n s h))) (asked y) (asked y)
+    settled (Good f false false c w x (Time s)) (giveOf m s) _ _ _ (λ n h. asked (ticks s y h)) (asked y)
 passes f s {c} {w} {x} (turned {m = m} y) =
-    settled (Good f false false c w x (Time s)) (giveOf m s) _ _ _ (λ n h. turned (ticks y (gave m n s h))) (search states) (search states)
+    settled (Good f false false c w x (Time s)) (giveOf m s) _ _ _ (λ n h. turned (ticks s y h)) (search states)
 passes f s (over y) = search states
 
 takes : (f : ℕ) {c : Call} {w : Bool} {x : ℕ} (e : Event) → eventOk e ≡ true → Agrees f c w x → Unopening e (performed c e) → Kept f c w x e

@@ -10,7 +10,7 @@ use lib.Dec.{eqb, ltb, leb}
 use borrow.Author.Tests.{leb-true, ne-eqb}
 use Rattle.meters.specs.Meters.{changeOf, withinOf}
 use Rattle.meters.specs.declared.Metered.{Metered}
-use Rattle.meters.specs.declared.Metered.the-variants.{Done, NoPayer, TooMuch}
+use Rattle.meters.specs.declared.Metered.the-variants.{Done, TooMuch}
 use Rattle.meters.specs.declared.Meters.{Meters}
 use Rattle.rows.specs.History.{run, history}
 use Rattle.rows.specs.Perform.{refusedAt, sideOf, orHeld, settledOf, performIf, performOf, appliesOf}
@@ -145,7 +145,6 @@ module _ (k : Kind) (i g pt er ca s : ℕ) (x : Component) where
           parts = refl;
           duration = refl;
         }
-    settles NoPayer p = refused 10 0 (renumbered a b c)
     settles TooMuch p = refused 2 0 (renumbered a b c)
 
     performs : (y : Bool) (p : Plan) →

@@ -511,7 +511,7 @@ module _ (P : Outcome → Type 0) (c : Call) (e : Event) (nine : validOf c ≡ f
   performs : validOf c ≡ true → eventOk e ≡ true → (b : Bool) → eqb (planFor c e .number) 0 ≡ b → P (performIf b c (planFor c e) (readOf e))
   performs v o true r =
       settled P (changeOf (planFor c e .change) (c .meters) (readOf e .seconds)) c (planFor c e) (readOf e)
-      (λ n h. follows n (record { valid = v; ranged = o; row = r; meters = h })) (refuses 10 0 v refl refl) (refuses 2 0 v refl refl)
+      (λ n h. follows n (record { valid = v; ranged = o; row = r; meters = h })) (refuses 2 0 v refl refl)
   performs v o false r = refuses (planFor c e .number) 0 v r (not-true _ (holds unlikeNine (λ e t a b. refl) c e))
 
   pub stepped : P (stepOf c e)

@@ -11,7 +11,7 @@ use lib.Dec.{leb, eqb}
 use borrow.Author.Tests.{eq-eqb}
 use Rattle.meters.specs.Meters.{changeOf}
 use Rattle.meters.specs.declared.Metered.{Metered}
-use Rattle.meters.specs.declared.Metered.the-variants.{Done, NoPayer, TooMuch}
+use Rattle.meters.specs.declared.Metered.the-variants.{Done, TooMuch}
 use Rattle.rows.specs.Perform.{refusedAt, ifThere, orHeld, openedOf, standOf, sideOf, settledOf, performIf, appliesOf}
 use Rattle.rows.specs.Promises.{OneOf, this, later, ownIn, callingIn, calledIn, namedBy, PassedOn, HeldOr, Keeps, OnlyOwn, HoldsOrClears}
 use Rattle.rows.specs.Read.{bit, readOf}
@@ -112,7 +112,6 @@ module _ (c : Call) (e : Event) where
             subst (λ (n : Number). OneOf (sideOf (p .register) (c .side) (readOf e) .called) (c .side .called ∷ n ∷ absent ∷ [])) (called-read e)
             (called-held (p .register) (c .side) (readOf e));
       }
-  settled NoPayer p = refused 10 0
   settled TooMuch p = refused 2 0
 
   performs : (b : Bool) (p : Plan) → PassedOn c e (performIf b c p (readOf e))

@@ -6,13 +6,13 @@ use Prim.Native.Nat.{ℕ, _+_, _≤_}
 use native.Mathlib.Omega.{arith}
 use lib.Dec.{eqb, leb}
 use borrow.Author.Tests.{eqb-true, leb-true, le-leb}
-use Rattle.meters.proofs.Laws.{fits, gave-fits, too-much, unpaid, nobody-charged, entire-fits, duration-fits}
+use Rattle.meters.proofs.Laws.{fits, gave-fits, too-much, entire-fits, duration-fits}
 use Rattle.meters.specs.Meters.{limit, sumOf, giveOf}
 use Rattle.meters.specs.declared.Metered.{Metered}
-use Rattle.meters.specs.declared.Metered.the-variants.{Done, NoPayer, TooMuch}
+use Rattle.meters.specs.declared.Metered.the-variants.{Done, TooMuch}
 use Rattle.meters.specs.declared.Meters.{Meters}
 use Rattle.meters.specs.declared.Payer.the-variants.{Nobody, Called, Far}
-use Rattle.rows.specs.Bill.{resultTo, invokeOf, turnedTo, isAnswered}
+use Rattle.rows.specs.Bill.{resultTo, invokeOf, isAnswered}
 use Rattle.rows.specs.Perform.{settledOf, performOf}
 use Rattle.rows.specs.Promises.{sent, holding, isAnswer, isFacility, bare, setupTurns, answeredTurns}
 use Rattle.rows.specs.Promises.{calledTurns, setupTold, answeredTold, messageTurns, accessTurns, takesEffect, InEffect}
@@ -43,6 +43,7 @@ use Rattle.rows.specs.declared.RevState.the-variants.{WaitCalled}
 use Rattle.rows.specs.declared.Role.{Role}
 use Rattle.rows.specs.declared.Role.the-variants.{Originating, Destination}
 use Rattle.rows.proofs.Answers.{row-decides, opened-then, isUnopened}
+use Rattle.rows.proofs.Payers.{answered-paid}
 use Rattle.rows.proofs.Placed.{placed}
 use Rattle.rows.proofs.Stays.{within-limit}
 use Rattle.rows.proofs.Truth.{differ, left, right, both, either}
@@ -55,21 +56,15 @@ valid-place c v = left _ _ v
 valid-metered : (c : Call) → validOf c ≡ true → meteredOf (c .side .role) (c .stand .phase) (c .meters) ≡ true
 valid-metered c v = left _ _ (right (placedOf (c .side .role) (c .stand .phase) (c .stand .rev)) _ v)
 
-somebody : (t : Bool) → turnedTo t ≡ Nobody → ⊥
-somebody true z = let n : _≡_ {A = ℕ} 0 1 = cc in omega arith
-somebody false z = let n : _≡_ {A = ℕ} 0 1 = cc in omega arith
-
 -- ---- Time
 
 -- the number given back where the meters' answer decides it
 abbrev numberBy : Metered → ℕ
 numberBy (Done n) = 0
-numberBy NoPayer = 10
 numberBy TooMuch = 2
 
 settled-number : (x : Metered) (c : Call) (p : Plan) (r : Reading) → settledOf x c p r .number ≡ numberBy x
 settled-number (Done n) c p r = refl
-settled-number NoPayer c p r = refl
 settled-number TooMuch c p r = refl
 
 -- a call at an exchange, in a phase and REV state
@@ -95,32 +90,26 @@ time-number c s v h d =
     ∙ counts (c .side .flags) (c .stand .agreed) (c .stand .rest) (c .meters) (c .side .own) (c .side .calling) (c .side .called) s
     (c .side .role) (c .stand .phase) (c .stand .rev) (valid-place c v) (ap isAnswered h)
 
--- where somebody pays, 2 is given exactly where the sum or the total would pass the limit ..
+-- 2 is given exactly where the sum or the total would pass the limit ..
 too-much-exactly : (m : Meters) (s : ℕ) → (m .payer ≡ Nobody → ⊥) → (x : Metered) → giveOf m s ≡ x → eqb (numberBy x) 2 ≡ not (fits m s)
-too-much-exactly m s p (Done n) e = sym (ap not (gave-fits m n s e))
-too-much-exactly m s p NoPayer e = absurd (p (unpaid m s e))
+too-much-exactly m s p (Done n) e = sym (ap not (gave-fits m n s p e))
 too-much-exactly m s p TooMuch e = sym (ap not (too-much m s e))
 
-pub time-two-exactly : (c : Call) (s : ℕ) → validOf c ≡ true → c .stand .phase ≡ Answered → (c .meters .payer ≡ Nobody → ⊥) → s ≤ 86400 →
+pub time-two-exactly : (c : Call) (s : ℕ) → validOf c ≡ true → c .stand .phase ≡ Answered → s ≤ 86400 →
     eqb (stepOf c (Time s) .number) 2 ≡ not (leb (sumOf (c .meters) + s) limit && leb (totalOf c + s) limit)
-time-two-exactly c s v h p d =
-    ap (λ (n : ℕ). eqb n 2) (time-number c s v h d) ∙ too-much-exactly (c .meters) s p (giveOf (c .meters) s) refl
+time-two-exactly c s v h d =
+    ap (λ (n : ℕ). eqb n 2) (time-number c s v h d)
+    ∙ too-much-exactly (c .meters) s (answered-paid c v (ap isAnswered h)) (giveOf (c .meters) s) refl
 
 -- .. and else it is accepted
-fitting : (m : Meters) (s : ℕ) → (m .payer ≡ Nobody → ⊥) → fits m s ≡ true → (x : Metered) → giveOf m s ≡ x → numberBy x ≡ 0
-fitting m s p f (Done n) e = refl
-fitting m s p f NoPayer e = absurd (p (unpaid m s e))
-fitting m s p f TooMuch e = differ (sym (too-much m s e) ∙ f)
+fitting : (m : Meters) (s : ℕ) → fits m s ≡ true → (x : Metered) → giveOf m s ≡ x → numberBy x ≡ 0
+fitting m s f (Done n) e = refl
+fitting m s f TooMuch e = differ (sym (too-much m s e) ∙ f)
 
-pub time-accepted : (c : Call) (s : ℕ) → validOf c ≡ true → c .stand .phase ≡ Answered → (c .meters .payer ≡ Nobody → ⊥) → s ≤ 86400 →
+pub time-accepted : (c : Call) (s : ℕ) → validOf c ≡ true → c .stand .phase ≡ Answered → s ≤ 86400 →
     sumOf (c .meters) + s ≤ limit → totalOf c + s ≤ limit → stepOf c (Time s) .number ≡ 0
-time-accepted c s v h p d l t =
-    time-number c s v h d ∙ fitting (c .meters) s p (both (le-leb _ _ l) (le-leb _ _ t)) (giveOf (c .meters) s) refl
-
--- where nobody pays it is 10, whatever the limits
-pub time-ten : (c : Call) (s : ℕ) → validOf c ≡ true → c .stand .phase ≡ Answered → s ≤ 86400 → c .meters .payer ≡ Nobody →
-    stepOf c (Time s) .number ≡ 10
-time-ten c s v h d p = time-number c s v h d ∙ ap numberBy (nobody-charged (c .meters) s p)
+time-accepted c s v h d l t =
+    time-number c s v h d ∙ fitting (c .meters) s (both (le-leb _ _ l) (le-leb _ _ t)) (giveOf (c .meters) s) refl
 
 -- ---- Plans that lead to ACTIVE do
 
@@ -149,25 +138,27 @@ module _ (c : Call) (r : Reading) where
   active-confirmed = either-way Rows.activeConfirmed (record { number = refl; phase = refl; rev = refl }) (record { number = refl; phase = refl; rev = refl })
 
   -- interaction allowed, transfer taken, called number or transfer requested, partial. Case C moves what was within the limit
-  called-asked : sumOf (c .meters) ≤ limit → (i t e p : Bool) → (i && e) ≡ true → Turns (Rows.calledAsked (interactionBy i) (extentBy p) (modeBy t) e)
+  called-asked : (sumOf (c .meters) ≤ limit) × (totalOf c ≤ limit) → (i t e p : Bool) → (i && e) ≡ true → Turns (Rows.calledAsked (interactionBy i) (extentBy p) (modeBy t) e)
   called-asked l false t e p h = differ h
   called-asked l true t false p h = differ h
   called-asked l true false true true h = record { number = refl; phase = refl; rev = refl }
   called-asked l true true true true h = record { number = refl; phase = refl; rev = refl }
   called-asked l true false true false h =
-      entire-fits (λ (x : Metered). InEffect (settledOf x c (Rows.calledAsked Allowed Entire NoTransfer true) r)) Called (c .meters) (somebody false) l
+      entire-fits (λ (x : Metered). InEffect (settledOf x c (Rows.calledAsked Allowed Entire NoTransfer true) r)) (c .meters) Called (c .meters .caller) 0
+      (omega arith) (l .0) (l .1)
       (λ n. record { number = refl; phase = refl; rev = refl })
   called-asked l true true true false h =
-      entire-fits (λ (x : Metered). InEffect (settledOf x c (Rows.calledAsked Allowed Entire Transfer true) r)) Far (c .meters) (somebody true) l
+      entire-fits (λ (x : Metered). InEffect (settledOf x c (Rows.calledAsked Allowed Entire Transfer true) r)) (c .meters) Far 0 (c .meters .caller)
+      (omega arith) (l .0) (l .1)
       (λ n. record { number = refl; phase = refl; rev = refl })
 
   -- in transfer mode, calling number there, for the rest of the call, Duration there
-  called-accepted : c .meters .caller ≡ 0 → (t n b d : Bool) → (not t || (n && (b || (d && leb (r .seconds) limit)))) ≡ true → Turns (Rows.calledAccepted (extentBy b) (modeBy t) n d)
+  called-accepted : (c .meters .caller ≡ 0) × (totalOf c ≤ limit) → (t n b d : Bool) → (not t || (n && (b || (d && leb (r .seconds) limit)))) ≡ true → Turns (Rows.calledAccepted (extentBy b) (modeBy t) n d)
   called-accepted z false n b d h = record { number = refl; phase = refl; rev = refl }
   called-accepted z true true true d h = record { number = refl; phase = refl; rev = refl }
   called-accepted z true true false true h =
       duration-fits (λ (x : Metered). InEffect (settledOf x c (Rows.calledAccepted Entire Transfer true true) r)) (c .meters) (r .seconds)
-      (omega (arith, z, leb-true (r .seconds) limit h)) (λ n. record { number = refl; phase = refl; rev = refl })
+      (omega (arith, z .0, leb-true (r .seconds) limit h)) (z .1) (λ n. record { number = refl; phase = refl; rev = refl })
   called-accepted z true true false false h = differ h
   called-accepted z true false b d h = differ h
 
@@ -233,7 +224,7 @@ module _ (f : Flags) (a b : Bool) (mt : Meters) (u v w : Number) where
     in-setup WaitActiveConf h = differ h
     in-setup WaitCalled h = differ h
 
-    in-answered : sumOf mt ≤ limit → (rv : RevState) → answeredTurns rv f m ≡ true →
+    in-answered : (sumOf mt ≤ limit) × (mt .total ≤ limit) → (rv : RevState) → answeredTurns rv f m ≡ true →
         InEffect (takesOf (standing Originating f Answered rv a b mt u v w) (Received m))
     in-answered l Idle h =
         a-facility (λ (k : ℕ). Leads Originating Answered Idle k (m .component)) (m .kind) (left _ _ h)
@@ -250,7 +241,7 @@ module _ (f : Flags) (a b : Bool) (mt : Meters) (u v w : Number) where
     in-answered l WaitActiveConf h = differ h
     in-answered l WaitCalled h = differ h
 
-    at-the-called : mt .caller ≡ 0 → (rv : RevState) → calledTurns rv f b m ≡ true →
+    at-the-called : (mt .caller ≡ 0) × (mt .total ≤ limit) → (rv : RevState) → calledTurns rv f b m ≡ true →
         InEffect (takesOf (standing Destination f Answered rv a b mt u v w) (Received m))
     at-the-called z Idle h = differ h
     at-the-called z WaitSetup h = differ h
@@ -270,8 +261,13 @@ module _ (f : Flags) (a b : Bool) (mt : Meters) (u v w : Number) where
     by-message r Null rv k h = differ h
     by-message Originating Setup rv k h = in-setup rv h
     by-message Destination Setup rv k h = differ h
-    by-message Originating Answered rv k h = in-answered (within-limit (standing Originating f Answered rv a b mt u v w) k .0) rv h
-    by-message Destination Answered rv k h = at-the-called (eqb-true (mt .caller) 0 (left (eqb (mt .caller) 0) _ (valid-metered (standing Destination f Answered rv a b mt u v w) k))) rv h
+    by-message Originating Answered rv k h = in-answered (within-limit (standing Originating f Answered rv a b mt u v w) k) rv h
+    by-message Destination Answered rv k h =
+        at-the-called (
+          eqb-true (mt .caller) 0 (left (eqb (mt .caller) 0) _ (valid-metered (standing Destination f Answered rv a b mt u v w) k)),
+          within-limit (standing Destination f Answered rv a b mt u v w) k .1,
+        )
+        rv h
     by-message r Cleared rv k h = differ h
 
   -- what the own access tells

@@ -141,15 +141,15 @@ module _ (c : Call) (e : Event) where
   pub way : Way c e (stepOf c e)
   way = by-call (validOf c) refl
 
--- ---- What a row gives: 0, 2, 4 or 10, and no field
+-- ---- What a row gives: 0, 2 or 4, and no field
 
 abbrev pub ofARow : ℕ → Bool
-ofARow n = eqb n 0 || (eqb n 2 || (eqb n 4 || eqb n 10))
+ofARow n = eqb n 0 || (eqb n 2 || eqb n 4)
 
 performed-number : (c : Call) (p : Plan) (r : Reading) (b : Bool) → eqb (p .number) 0 ≡ b → (b || eqb (p .number) 4) ≡ true →
     ofARow (performIf b c p r .number) ≡ true
 performed-number c p r true h i =
-    settled (λ (o : Outcome). ofARow (o .number) ≡ true) (changeOf (p .change) (c .meters) (r .seconds)) c p r (λ n d. refl) refl refl
+    settled (λ (o : Outcome). ofARow (o .number) ≡ true) (changeOf (p .change) (c .meters) (r .seconds)) c p r (λ n d. refl) refl
 performed-number c p r false h i = ap ofARow (eqb-true (p .number) 4 i)
 
 row-number : (c : Call) (e : Event) → isRow (row c e) ≡ true → ofARow (performed c e .number) ≡ true
@@ -159,7 +159,7 @@ row-number c e h =
 
 performed-field : (c : Call) (p : Plan) (r : Reading) (b : Bool) → performIf b c p r .field ≡ 0
 performed-field c p r true =
-    settled (λ (o : Outcome). o .field ≡ 0) (changeOf (p .change) (c .meters) (r .seconds)) c p r (λ n d. refl) refl refl
+    settled (λ (o : Outcome). o .field ≡ 0) (changeOf (p .change) (c .meters) (r .seconds)) c p r (λ n d. refl) refl
 performed-field c p r false = refl
 
 not-of-a-row : {A : Type 0} (n m : ℕ) → ofARow n ≡ true → ofARow m ≡ false → n ≡ m → A
@@ -426,8 +426,7 @@ reasonAt u w n = pickℕ (eqb u 0) (pickℕ w 0 n) u
 row-no-reason : (n : ℕ) → ofARow n ≡ true → reason n ≡ 0
 row-no-reason n h =
     either (eqb n 0) _ h (λ i. ap reason (eqb-true n 0 i)) (λ h.
-    either (eqb n 2) _ h (λ i. ap reason (eqb-true n 2 i)) (λ h.
-    either (eqb n 4) _ h (λ i. ap reason (eqb-true n 4 i)) (λ i. ap reason (eqb-true n 10 i))))
+    either (eqb n 2) _ h (λ i. ap reason (eqb-true n 2 i)) (λ i. ap reason (eqb-true n 4 i)))
 
 abbrev reasonBy : Role → Phase → RevState → Cue → Bool → ℕ
 reasonBy r p s q o = reasonAt (untimelyOf p o) (isRow (rowForOf r p s q)) (whyOf r p q)

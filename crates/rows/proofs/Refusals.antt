@@ -32,7 +32,7 @@ refusal-is c e =
     stepped (λ (o : Outcome). (o .number ≡ 0 → ⊥) → o ≡ refusedAt (o .number) (o .field) c) c e
     (λ v z. refl) (λ n k v p q z. refl) (λ n d z. absurd (z refl))
 
--- ---- Which numbers are given: those of the refusals, those of the plans, and the meters' 10 and 2
+-- ---- Which numbers are given: those of the refusals, those of the plans, and the meters' 2
 
 abbrev Given : Outcome → Type 0
 Given o = given (o .number) ≡ true
@@ -42,10 +42,10 @@ plansGive r now k p = given (p .number)
 
 performs : (c : Call) (e : Event) (b : Bool) → eqb (planFor c e .number) 0 ≡ b → Given (performIf b c (planFor c e) (readOf e))
 performs c e true r =
-    settled Given (changeOf (planFor c e .change) (c .meters) (readOf e .seconds)) c (planFor c e) (readOf e) (λ n h. refl) refl refl
+    settled Given (changeOf (planFor c e .change) (c .meters) (readOf e .seconds)) c (planFor c e) (readOf e) (λ n h. refl) refl
 performs c e false r = holds plansGive (λ e t a b. refl) c e
 
-all-given : (c : Call) (e : Event) → Given (stepOf c e)
+pub all-given : (c : Call) (e : Event) → Given (stepOf c e)
 all-given c e =
     guarded Given c e (λ v. refl)
     (λ v. record { one = refl; three = λ k. refl; fifteen = refl; sixteen = refl; seventeen = refl; twenty = refl })

@@ -45,7 +45,7 @@ is-true : (b : Bool) → T b → b ≡ true
 is-true true t = refl
 is-true false t = absurd t
 
--- ---- No row is said exactly where the plan has 1: the meters refuse with 10 and 2, and no row's plan has another number than 0 and 4
+-- ---- No row is said exactly where the plan has 1: the meters refuse with 2, and no row's plan has another number than 0 and 4
 
 -- 1 unless there is a row
 abbrev oneUnless : Bool → Plan → Bool
@@ -58,7 +58,7 @@ Said o b = saysNoRow (o .number) ≡ b
 -- a plan of a row
 of-a-row : (c : Call) (p : Plan) (r : Reading) (b : Bool) → eqb (p .number) 0 ≡ b → (b || eqb (p .number) 4) ≡ true → Said (performIf b c p r) false
 of-a-row c p r true h i =
-    settled (λ (o : Outcome). Said o false) (changeOf (p .change) (c .meters) (r .seconds)) c p r (λ n d. refl) refl refl
+    settled (λ (o : Outcome). Said o false) (changeOf (p .change) (c .meters) (r .seconds)) c p r (λ n d. refl) refl
 of-a-row c p r false h i = ap saysNoRow (eqb-true (p .number) 4 i)
 
 zero-or-four : (n : ℕ) → (eqb n 0 || eqb n 4) ≡ true → eqb n 1 ≡ false
@@ -172,7 +172,7 @@ carried P z c p r = outcome (eqb (p .number) 0)
     outcome true =
         settled
         (λ (o : Outcome). P (o .note) ≡ true → P (noteOf (p .error) (p .cause) (p .component) (p .parts) (c .side .own) (c .meters .caller)) ≡ true)
-        (changeOf (p .change) (c .meters) (r .seconds)) c p r (λ n d h. h) (λ h. differ (sym z ∙ h)) (λ h. differ (sym z ∙ h))
+        (changeOf (p .change) (c .meters) (r .seconds)) c p r (λ n d h. h) (λ h. differ (sym z ∙ h))
     outcome false = λ h. differ (sym z ∙ h)
 
 -- and a step that says something carried out its plan

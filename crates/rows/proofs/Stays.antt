@@ -9,8 +9,8 @@ use native.Mathlib.Omega.{arith}
 use lib.Dec.{eqb, leb}
 use borrow.Author.Tests.{eqb-true, eq-eqb, le-leb, leb-true}
 use Rattle.meters.proofs.Laws
-use Rattle.meters.proofs.Laws.{Gave, gave, gave-within, moved, received, begins, begun}
-use Rattle.meters.specs.Meters.{limit, newOf, sumOf, withinOf, paidByOf, giveOf, entireOf, receivedOf, changeOf}
+use Rattle.meters.proofs.Laws.{Gave, gave, Moved, moved-to-called, moved-to-far, received, begins, begun}
+use Rattle.meters.specs.Meters.{limit, newOf, sumOf, withinOf, paidByOf, giveOf, receivedOf, changeOf}
 use Rattle.meters.specs.declared.Change.{Change}
 use Rattle.meters.specs.declared.Change.the-variants.{Keep, Begin, CallerPays, CalledPays, FarPays, NobodyPays, EntireToCalled}
 use Rattle.meters.specs.declared.Change.the-variants.{EntireToFar, TimePasses, DurationReceived}
@@ -102,7 +102,7 @@ pub data Age : Type 0 where
   talking : Age
   over : Age
 
-abbrev ageOf : Phase → Age
+abbrev pub ageOf : Phase → Age
 ageOf Unopened = before
 ageOf Null = before
 ageOf Setup = before
@@ -114,7 +114,7 @@ meteredIn r before m = unmetered m
 meteredIn r talking m = tallied r m
 meteredIn r over m = tallied r m
 
-abbrev payingIn : Role → Age → Payer → Bool
+abbrev pub payingIn : Role → Age → Payer → Bool
 payingIn r before p = payerNobody p
 payingIn r talking p = payingThere r p
 payingIn r over p = payerNobody p
@@ -241,6 +241,14 @@ same-age before u h = is-before u h
 same-age talking u h = is-talking u h
 same-age over u h = is-over u h
 
+-- the payer of an ANSWERED call is somebody
+pub somebody : (r : Role) (p : Payer) → payingThere r p ≡ true → p ≡ Nobody → ⊥
+somebody r p h e = differ (sym (ap (payingThere r) e ∙ nobodys r) ∙ h)
+  where
+    nobodys : (r : Role) → payingThere r Nobody ≡ false
+    nobodys Originating = refl
+    nobodys Destination = refl
+
 -- a tick at a destination is not the caller's
 pub not-callers : (p : Payer) (s : ℕ) → payerThere p ≡ true → Laws.share Caller p s ≡ 0
 not-callers Nobody s h = refl
@@ -248,14 +256,14 @@ not-callers Caller s h = cc
 not-callers Called s h = refl
 not-callers Far s h = refl
 
-ticked : (r : Role) {m n : Meters} {s : ℕ} → Sound r talking m → Gave m n (m .payer) s s → n .total ≤ limit → tallied r n ≡ true
-ticked Originating {m} {n} {s} z g l =
+ticked : (r : Role) {m n : Meters} {s : ℕ} → Sound r talking m → Gave m n (m .payer) s s → tallied r n ≡ true
+ticked Originating {m} {n} {s} z g =
     let e : sumOf m ≡ m .total = eqb-true _ _ (z .metered) in
     adds-up n (omega (arith, g .sum, g .total, e))
-ticked Destination {m} {n} {s} z g l =
+ticked Destination {m} {n} {s} z g =
     let p = not-callers (m .payer) s (z .paying) in
     let q = caller-none m (z .metered) in
-    no-caller n (omega arith) l
+    no-caller n (omega arith) (g .within)
 
 -- what a change leaves: a payer, meters in order, a sum within the limit
 record Left (r : Role) (p : Payer) (n : Meters) : Type 0 where
@@ -273,9 +281,8 @@ pays r t p m n z h =
     subst (λ (k : Meters). Left r p k) e
     (record { tally = paid-tally r m p (in-order r t m (z .metered)); within = z .within; payer = refl })
 
-moves : (r : Role) (t : Age) (p : Payer) (m n : Meters) → payerThere p ≡ true → Sound r t m → entireOf m p ≡ Done n → Left r p n
-moves r t p m n i z h =
-    let g = moved m n p h in
+moves : (r : Role) (t : Age) (p : Payer) (m n : Meters) → payerThere p ≡ true → Sound r t m → Moved m n p → Left r p n
+moves r t p m n i z g =
     record {
       tally = same-tally r m n (g .caller ∙ not-callers p (m .caller) i) (g .sum) (g .total) (in-order r t m (z .metered));
       within = ap (λ (x : ℕ). leb x limit) (g .sum) ∙ z .within;
@@ -284,8 +291,8 @@ moves r t p m n i z h =
 
 ticks : (r : Role) (m n : Meters) (s : ℕ) → Sound r talking m → giveOf m s ≡ Done n → Left r (m .payer) n
 ticks r m n s z h =
-    let g = gave m n s h in
-    record { tally = ticked r z g (gave-within m n s h); within = le-leb _ _ (g .bound); payer = g .payer }
+    let g = gave m n s (somebody r (m .payer) (z .paying)) h in
+    record { tally = ticked r z g; within = le-leb _ _ (g .bound); payer = g .payer }
 
 -- a Duration is a destination's: it sets the meters and not the total, so the originating exchange's would no longer add up
 receives : (r : Role) (t : Age) (m n : Meters) (s : ℕ) → isDestination r ≡ true → Sound r t m → receivedOf m s ≡ Done n → Left r Called n
@@ -300,7 +307,10 @@ receives Destination t m n s i z h =
     }
 
 there : (r : Role) (p : Payer) → payerThere p ≡ true → payingThere r p ≡ true
-there Originating p h = refl
+there Originating Nobody h = h
+there Originating Caller h = refl
+there Originating Called h = refl
+there Originating Far h = refl
 there Destination p h = h
 
 caller-there : (r : Role) → isOriginating r ≡ true → payingThere r Caller ≡ true
@@ -335,8 +345,8 @@ changes r t u CallerPays m n s i z h =
 changes r t u CalledPays m n s i z h = talks r Called n u i (there r Called refl) (pays r t Called m n z h)
 changes r t u FarPays m n s i z h = talks r Far n u i (there r Far refl) (pays r t Far m n z h)
 changes r t u NobodyPays m n s i z h = ends r n u i (pays r t Nobody m n z h)
-changes r t u EntireToCalled m n s i z h = talks r Called n u i (there r Called refl) (moves r t Called m n refl z h)
-changes r t u EntireToFar m n s i z h = talks r Far n u i (there r Far refl) (moves r t Far m n refl z h)
+changes r t u EntireToCalled m n s i z h = talks r Called n u i (there r Called refl) (moves r t Called m n refl z (moved-to-called m n h))
+changes r t u EntireToFar m n s i z h = talks r Far n u i (there r Far refl) (moves r t Far m n refl z (moved-to-far m n h))
 changes r t u TimePasses m n s i z h =
     let z′ = subst (λ (v : Age). Sound r v m) (is-talking t (left (isTalking t) _ i)) z in
     talks r (m .payer) n u (right (isTalking t) _ i) (z′ .paying) (ticks r m n s z′ h)

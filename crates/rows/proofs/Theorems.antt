@@ -12,12 +12,13 @@ use mathlib.Core.Logic.{_↔_, _⊎_}
 use Prim.Native.Nat.{ℕ, suc, _+_, _≤_}
 use lib.Dec.{eqb, leb}
 use Rattle.meters.specs.Meters.{newOf, sumOf}
+use Rattle.meters.specs.declared.Payer.{Payer}
 use Rattle.meters.specs.declared.Payer.the-variants.{Nobody}
 use Rattle.rows.specs.Bill.{bitAt, isAnswered, isRev, answered, Case, plain, marks, took, reversal, payer, bill, originating, destination}
 use Rattle.rows.specs.Bill.{Step, pick, opens, noneOpens, line}
 use Rattle.rows.specs.History.{run, written, history, opening}
 use Rattle.rows.specs.Perform.{refusedAt}
-use Rattle.rows.specs.Promises.{NothingDone, AsFresh, noneIs, unpaid, Answering, runs, inCall, Clears, chargedBy, placeIn}
+use Rattle.rows.specs.Promises.{NothingDone, AsFresh, noneIs, withPayer, payerFits, Answering, runs, inCall, Clears, chargedBy, placeIn}
 use Rattle.rows.specs.Promises.{isFacility, tellsRunning, asksReversal, isInvoke, errorIs, toldRunning, sentRunning}
 use Rattle.rows.specs.Promises.{saysNoRow, requestHasRow, invokeHasRow, given}
 use Rattle.rows.specs.Promises.{openingThere, secondsThere, noDuration, lastedIn, withTotal, totalFits}
@@ -68,7 +69,7 @@ refusal-changes-nothing = Refusals.refusal-changes-nothing
 pub refusal-is : (c : Call) (e : Event) → (stepOf c e .number ≡ 0 → ⊥) → stepOf c e ≡ refusedAt (stepOf c e .number) (stepOf c e .field) c
 refusal-is = Refusals.refusal-is
 
--- A call gives back 0 to 4, 9, 10, 15 to 17 and 20 (`given`), and no other number ..
+-- A call gives back 0 to 4, 9, 15 to 17 and 20 (`given`), and no other number ..
 pub never-given : (n : ℕ) → given n ≡ false → (c : Call) (e : Event) → stepOf c e .number ≡ n → ⊥
 never-given = Refusals.never-given
 
@@ -129,13 +130,15 @@ new-before-answer = Stays.new-before-answer
 pub within-limit : (c : Call) → validOf c ≡ true → (sumOf (c .meters) ≤ 31536000) × (totalOf c ≤ 31536000)
 within-limit = Stays.within-limit
 
--- No step leads to ANSWERED with nobody as payer, unless the call stood so ..
-pub paid-stays : (c : Call) (e : Event) → unpaid c ≡ false → unpaid (stepOf c e .call) ≡ false
-paid-stays = Payers.paid-stays
+-- A call with another payer is no call exactly if that payer does not fit (`payerFits`: outside ANSWERED nobody pays; in it somebody does, and
+-- at a destination called or far) ..
+pub nine-by-payer : (c : Call) (p : Payer) (e : Event) → validOf c ≡ true →
+    eqb (stepOf (withPayer p c) e .number) 9 ≡ not (payerFits (c .side .role) (c .stand .phase) p)
+nine-by-payer = Payers.nine-by-payer
 
--- .. so no history from before the opening meets 10 either, at either exchange.
-pub never-ten : (es : List Event) → noneIs 10 (history unopenedCall es) ≡ true
-never-ten es = Payers.never-ten unopenedCall es refl
+-- .. and whatever else it holds, an ANSWERED call with nobody as payer is none: every event is answered by 9 (02 #108).
+pub nobody-is-nine : (c : Call) (e : Event) → c .stand .phase ≡ Answered → c .meters .payer ≡ Nobody → stepOf c e ≡ refusedAt 9 0 c
+nobody-is-nine = Payers.nobody-is-nine
 
 -- ---- An opening takes a free call (02 #107). `freeOf`: a call, never opened or cleared
 
@@ -181,20 +184,15 @@ never-back = Phases.never-falls
 
 -- ---- Progress
 
--- In ANSWERED, where somebody pays, a time in range that keeps the sum and the total within the limit is accepted.
-pub time-accepted : (c : Call) (s : ℕ) → validOf c ≡ true → c .stand .phase ≡ Answered → (c .meters .payer ≡ Nobody → ⊥) → s ≤ 86400 →
+-- In ANSWERED a time in range that keeps the sum and the total within the limit is accepted.
+pub time-accepted : (c : Call) (s : ℕ) → validOf c ≡ true → c .stand .phase ≡ Answered → s ≤ 86400 →
     sumOf (c .meters) + s ≤ 31536000 → totalOf c + s ≤ 31536000 → stepOf c (Time s) .number ≡ 0
 time-accepted = Progress.time-accepted
 
 -- 2 is given for any other such time, and for no other: where the sum of the meters or the total would pass the limit.
-pub time-two-exactly : (c : Call) (s : ℕ) → validOf c ≡ true → c .stand .phase ≡ Answered → (c .meters .payer ≡ Nobody → ⊥) → s ≤ 86400 →
+pub time-two-exactly : (c : Call) (s : ℕ) → validOf c ≡ true → c .stand .phase ≡ Answered → s ≤ 86400 →
     eqb (stepOf c (Time s) .number) 2 ≡ not (leb (sumOf (c .meters) + s) 31536000 && leb (totalOf c + s) 31536000)
 time-two-exactly = Progress.time-two-exactly
-
--- Where nobody pays it is 10, also where a limit would be passed: 10 comes before 2.
-pub time-ten : (c : Call) (s : ℕ) → validOf c ≡ true → c .stand .phase ≡ Answered → s ≤ 86400 → c .meters .payer ≡ Nobody →
-    stepOf c (Time s) .number ≡ 10
-time-ten = Progress.time-ten
 
 -- Each row that leads to ACTIVE does so wherever its needed parts are there and no limit is passed (`takesEffect`: the table of them).
 pub reversal-takes-effect : (c : Call) (e : Event) → validOf c ≡ true → eventOk e ≡ true → takesEffect c e ≡ true → InEffect (stepOf c e)
@@ -305,8 +303,7 @@ pub pays-now : (f : ℕ) (own : Number) → opening f own .number ≡ 0 → (es 
     run (opening f own .call) es .meters .payer ≡ payer (reversal (marks f plain (history (opening f own .call) es))) true
 pays-now = Reversal.pays-now
 
--- Somebody pays: no history from an opening, whatever is opened after it, reaches ANSWERED with nobody as payer, so 10 is for calls that a
--- host hands in.
+-- Somebody pays: no history from an opening, whatever is opened after it, reaches ANSWERED with nobody as payer (02 #108).
 pub somebody-pays : (f : ℕ) (own : Number) → opening f own .number ≡ 0 → (es : List Event) →
     run (opening f own .call) es .stand .phase ≡ Answered → run (opening f own .call) es .meters .payer ≡ Nobody → ⊥
 somebody-pays = Payers.somebody-pays

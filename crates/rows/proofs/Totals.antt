@@ -12,6 +12,7 @@ use lib.Dec.{eqb, leb}
 use Rattle.meters.proofs.Laws.{timed, begins, onlyIf, total-grows}
 use Rattle.meters.specs.Meters.{limit, sumOf, withinOf}
 use Rattle.meters.specs.declared.Meters.{Meters}
+use Rattle.meters.specs.declared.Payer.the-variants.{Nobody}
 use Rattle.rows.specs.Bill.{pick, Step, counted, isTime, secondsIn, isAnswered, times, sum, answered, anOpening, opens, noneOpens}
 use Rattle.rows.specs.History.{run, written, history, opening}
 use Rattle.rows.specs.Promises.{lastedIn, retotalled, withTotal, totalFits, openingThere}
@@ -31,6 +32,7 @@ use Rattle.rows.specs.declared.Role.{Role}
 use Rattle.rows.specs.declared.Role.the-variants.{Originating, Destination}
 use Rattle.rows.proofs.Answers.{planFor}
 use Rattle.rows.proofs.Found.{implies, so, Test, holds, stepped}
+use Rattle.rows.proofs.Payers.{answered-paid}
 use Rattle.rows.proofs.Phases
 use Rattle.rows.proofs.Phases.{isOpens}
 use Rattle.rows.proofs.Stays
@@ -85,8 +87,14 @@ total-counts c e =
     stepped (λ (o : Outcome). totalOf (o .call) ≡ pick (opens (written c e o)) 0 (totalOf c + lastedIn (written c e o))) c e
     (λ v. omega arith)
     (λ n k v z q. refused n z)
-    (λ n d. grown n (total-grows (planFor c e .change) (c .meters) n (readOf e .seconds) (d .meters)) (d .row))
+    (λ n d. grown n (total-grows (planFor c e .change) (c .meters) n (readOf e .seconds) (paid (d .valid) (d .row)) (d .meters)) (d .row))
   where
+    -- time is counted in ANSWERED alone, where somebody pays
+    paid : validOf c ≡ true → eqb (planFor c e .number) 0 ≡ true → timed (planFor c e .change) ≡ true → c .meters .payer ≡ Nobody → ⊥
+    paid v r t =
+        let w = left _ _ (so _ _ (holds counting (λ e′ t a b. refl) c e) r) in
+        answered-paid c v (right (isPassing (readOf e .kind)) _ (sym (are-alike _ _ w) ∙ t))
+
     refused : (n : ℕ) → eqb n 0 ≡ false →
         totalOf c ≡ pick (eqb n 0 && anOpening e) 0 (totalOf c + pick (eqb n 0 && (isTime e && isAnswered (c .stand .phase))) (secondsIn e) 0)
     refused n z = rw z (omega arith)

@@ -9,8 +9,9 @@ use native.Mathlib.Omega.{arith}
 use lib.Dec.{eqb, leb}
 use borrow.Author.Tests.{not-true}
 use Rattle.meters.proofs.Laws
-use Rattle.meters.proofs.Laws.{Gave, gave, Moved, moved}
+use Rattle.meters.proofs.Laws.{Gave, gave, Moved, moved-to-called, moved-to-far}
 use Rattle.meters.specs.Meters.{newOf, paidByOf, giveOf, entireOf}
+use Rattle.meters.specs.declared.Metered.the-variants.{Done}
 use Rattle.meters.specs.declared.Meters.{Meters}
 use Rattle.meters.specs.declared.Payer.{Payer}
 use Rattle.meters.specs.declared.Payer.the-variants.{Nobody, Caller, Called, Far}
@@ -168,12 +169,24 @@ pick-add false x y = refl
 share-add : (q p : Payer) (x y : ℕ) → share q p (x + y) ≡ share q p x + share q p y
 share-add q p x y = pick-add (same q p) x y
 
+-- the history names somebody
+somebody : (w : Took) → payer w true ≡ Nobody → ⊥
+somebody nothing h = differ (ap (same Nobody) h)
+somebody (took k t) h = by (covers k true) t h
+  where
+    by : (b t : Bool) → pick b (turnedTo t) Caller ≡ Nobody → ⊥
+    by true true h = differ (ap (same Nobody) h)
+    by true false h = differ (ap (same Nobody) h)
+    by false t h = differ (ap (same Nobody) h)
+
 -- the payer's meter takes the seconds
-ticks : {m n : Meters} {s x y : ℕ} (w : Took) → Right m (known w x y) → Gave m n (m .payer) s s → Right n (noteSeconds w x y s)
-ticks {m} {n} {s} {x} {y} nothing z g =
+ticks : {m n : Meters} {x y : ℕ} (s : ℕ) (w : Took) → Right m (known w x y) → giveOf m s ≡ Done n → Right n (noteSeconds w x y s)
+ticks {m} {n} {x} {y} s nothing z h =
+    let g = gave m n s (λ e. somebody nothing (sym (z .pays) ∙ e)) h in
     let g′ : Gave m n Caller s s = subst (λ (p : Payer). Gave m n p s s) (z .pays) g in
     record { pays = g .payer ∙ z .pays; owes = omega arith }
-ticks {m} {n} {s} {x} {y} (took k t) z g =
+ticks {m} {n} {x} {y} s (took k t) z h =
+    let g = gave m n s (λ e. somebody (took k t) (sym (z .pays) ∙ e)) h in
     let g′ : Gave m n (payer (took k t) true) s s = subst (λ (p : Payer). Gave m n p s s) (z .pays) g in
     let l = law (payer (took k t) true) s in
     record {
@@ -311,9 +324,9 @@ module _ (f : ℕ) (u v w : Number) (a r : Bool) (d : Mark) (m : Message) (s : S
     plan-BC Allowed false true true = turned (switches false z)
     plan-BC Allowed true l true = turned (switches true z)
     plan-BC Allowed false true false =
-        settled (GoodC false) (entireOf n Called) _ _ _ (λ n′ h. turned (moves false z (moved n n′ Called h))) (search states) (search states)
+        settled (GoodC false) (entireOf n Called (n .caller) 0) _ _ _ (λ n′ h. turned (moves false z (moved-to-called n n′ h))) (search states)
     plan-BC Allowed true l false =
-        settled (GoodC true) (entireOf n Far) _ _ _ (λ n′ h. turned (moves true z (moved n n′ Far h))) (search states) (search states)
+        settled (GoodC true) (entireOf n Far 0 (n .caller)) _ _ _ (λ n′ h. turned (moves true z (moved-to-far n n′ h))) (search states)
     plan-BC Allowed false false true = search states
     plan-BC Allowed false false false = search states
 
@@ -456,11 +469,11 @@ passes f s setup = search states
 passes f s asked-A = search states
 passes f s asked-D = search states
 passes f s {c} {d} {o} (talks {m = m} z) =
-    settled (Good f silence c d o (Time s)) (giveOf m s) _ _ _ (λ n h. talks (ticks nothing z (gave m n s h))) (search states) (search states)
+    settled (Good f silence c d o (Time s)) (giveOf m s) _ _ _ (λ n h. talks (ticks s nothing z h)) (search states)
 passes f s {c} {d} {o} (asked-B {m = m} z) =
-    settled (Good f silence c d o (Time s)) (giveOf m s) _ _ _ (λ n h. asked-B (ticks nothing z (gave m n s h))) (search states) (search states)
+    settled (Good f silence c d o (Time s)) (giveOf m s) _ _ _ (λ n h. asked-B (ticks s nothing z h)) (search states)
 passes f s {c} {d} {o} (turned {t = t} {m = m} {k = k} z) =
-    settled (Good f silence c d o (Time s)) (giveOf m s) _ _ _ (λ n h. turned (ticks (took k t) z (gave m n s h))) (search states) (search states)
+    settled (Good f silence c d o (Time s)) (giveOf m s) _ _ _ (λ n h. turned (ticks s (took k t) z h)) (search states)
 passes f s (over z) = over z
 
 takes : (f : ℕ) {c : Call} {d : Mark} {o : Known} (e : Event) → Agrees f c d o → Unopening e (performed c e) → Kept f c d o e

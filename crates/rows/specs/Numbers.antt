@@ -21,9 +21,6 @@ partAbsent = 4
 abbrev pub notACall : ℕ
 notACall = 9
 
-abbrev pub nobodyPays : ℕ
-nobodyPays = 10
-
 -- 02 #106, beside 01's "Numbers given back": "15 is for the wrong phase", "16 for the wrong REV state"
 abbrev pub wrongPhase : ℕ
 wrongPhase = 15

@@ -3,12 +3,12 @@
 use Prim.Native.Nat.{ℕ}
 use mathlib.Core.Bool.{Bool, true, false}
 use lib.Dec.{eqb, leb}
-use Rattle.rows.specs.Numbers.{applied, tooMuch, nobodyPays, noPart, callingPart, calledPart, durationPart}
+use Rattle.rows.specs.Numbers.{applied, tooMuch, noPart, callingPart, calledPart, durationPart}
 use Rattle.rows.specs.Read.{bit, flagsOf}
 use Rattle.rows.specs.Telephone.{absent}
 use Rattle.meters.specs.Meters.{changeOf}
 use Rattle.meters.specs.declared.Metered.{Metered}
-use Rattle.meters.specs.declared.Metered.the-variants.{Done, NoPayer, TooMuch}
+use Rattle.meters.specs.declared.Metered.the-variants.{Done, TooMuch}
 use Rattle.meters.specs.declared.Meters.{Meters}
 use Rattle.meters.specs.declared.Payer.{Payer}
 use Rattle.meters.specs.declared.Payer.the-variants.{Nobody, Caller, Called, Far}
@@ -191,10 +191,9 @@ followsOf c p r after =
     (noteOf (p .error) (p .cause) (p .component) (p .parts) (c .side .own) (c .meters .caller))
     (stoppingOf (c .meters .payer) (after .payer))
 
--- 10 and 2 are the meters' own refusals
+-- 2 is the meters' own refusal
 abbrev pub settledOf : Metered → Call → Plan → Reading → Outcome
 settledOf (Done after) c p r = followsOf c p r after
-settledOf NoPayer c p r = refusedOf nobodyPays c
 settledOf TooMuch c p r = refusedOf tooMuch c
 
 abbrev pub doesOf : Call → Plan → Reading → Outcome

@@ -93,9 +93,23 @@ totalFits Destination Cleared sum t = leb t 31536000
 
 -- ---- Somebody pays: proofs/Payers.antt
 
--- ANSWERED, and nobody pays: what 10 is given for
-abbrev pub unpaid : Call → Bool
-unpaid c = isAnswered (c .stand .phase) && same Nobody (c .meters .payer)
+-- the same call with another payer
+abbrev pub withPayer : Payer → Call → Call
+withPayer p c =
+    record {
+      side = c .side;
+      stand = c .stand;
+      meters = record { caller = c .meters .caller; called = c .meters .called; far = c .meters .far; payer = p; total = c .meters .total };
+    }
+
+-- The payers that a call may have, by role and phase. Outside ANSWERED nobody pays; in it somebody does, and at a destination called or far
+abbrev pub payerFits : Role → Phase → Payer → Bool
+payerFits r Unopened p = same Nobody p
+payerFits r Null p = same Nobody p
+payerFits r Setup p = same Nobody p
+payerFits Originating Answered p = not (same Nobody p)
+payerFits Destination Answered p = same Called p || same Far p
+payerFits r Cleared p = same Nobody p
 
 -- ---- Phases go forward: proofs/Phases.antt
 
@@ -618,7 +632,7 @@ chargedBy false ph q = asBefore ph q
 -- ---- Which numbers a call gives back: proofs/Refusals.antt
 
 -- 01, "Numbers given back", 02 #106 and #107: 0; 1, 15, 16, 17 and 20, why no row was looked for or found; 3, a bad field; 4, a part that is
--- absent; 9, no call; 10, nobody pays; 2, too much
+-- absent; 9, no call; 2, too much
 abbrev pub given : ℕ → Bool
 given n =
-    eqb n 0 || (eqb n 1 || (eqb n 2 || (eqb n 3 || (eqb n 4 || (eqb n 9 || (eqb n 10 || (eqb n 15 || (eqb n 16 || (eqb n 17 || eqb n 20)))))))))
+    eqb n 0 || (eqb n 1 || (eqb n 2 || (eqb n 3 || (eqb n 4 || (eqb n 9 || (eqb n 15 || (eqb n 16 || (eqb n 17 || eqb n 20))))))))

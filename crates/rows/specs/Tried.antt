@@ -13,7 +13,7 @@ use Rattle.rows.specs.Numbers.{basicServiceNotProvided}
 use Rattle.rows.specs.Numbers.{alreadyRunning, normalClearing, facilityRejected, noPart, transferPart, partialPart, callingPart}
 use Rattle.rows.specs.Numbers.{calledPart, durationPart, agreedParts}
 use Rattle.rows.specs.Perform.{at}
-use Rattle.rows.specs.Promises.{withTotal}
+use Rattle.rows.specs.Promises.{withTotal, withPayer}
 use Rattle.rows.specs.Read.{flagsOf}
 use Rattle.rows.specs.Step.{unopenedCall, totalOf, stepOf, Deed, does, tells, sends, deedsOf}
 use Rattle.rows.specs.Telephone.{absent}
@@ -251,14 +251,25 @@ full : run (served WaitCalled 31536000 31536000) (result 0 ∷ Time 0 ∷ Time 1
     ∷ []
 full = refl
 
--- 10 comes before 2: nobody pays, and no second is left
-nobody-first : stepOf
-    (record {
+-- 02 #108: ANSWERED at the originating exchange, by payer. With nobody every event is 9, an opening and one with a bad field too; and so it is
+-- where no second is left
+abbrev paidBy : Payer → Event → ℕ
+paidBy p e = stepOf (withPayer p (talked 40)) e .number
+
+abbrev full-unpaid : Call
+full-unpaid =
+    record {
       side = talked 0 .side;
       stand = talked 0 .stand;
       meters = record { caller = 31536000; called = 0; far = 0; payer = Payer.Nobody; total = 31536000 };
-    }) (Time 1) .number ≡ 10
-nobody-first = refl
+    }
+
+somebody-talks : (paidBy Payer.Caller (Time 1) ≡ 0) × (paidBy Payer.Called (Time 1) ≡ 0) × (paidBy Payer.Far (Time 1) ≡ 0)
+somebody-talks = (refl, refl, refl)
+
+nobody-talks : (paidBy Payer.Nobody (Time 1) ≡ 9) × (paidBy Payer.Nobody (Opening 0 8 room) ≡ 9) × (paidBy Payer.Nobody (Time 86401) ≡ 9)
+    × (paidBy Payer.Nobody (FromAccess 4 0) ≡ 9) × (paidBy Payer.Nobody Expiry ≡ 9) × (stepOf full-unpaid (Time 1) .number ≡ 9)
+nobody-talks = (refl, refl, refl, refl, refl, refl)
 
 -- what an expiry is answered in IDLE, where the call holds this total: 16, it has no row there; or 9
 abbrev expiry-with : ℕ → Call → ℕ

@@ -138,8 +138,9 @@ meteredOf r Setup m = unmetered m
 meteredOf r Answered m = tallied r m
 meteredOf r Cleared m = tallied r m
 
+-- 02 #108: an ANSWERED originating call "with nobody as payer" is "not a call state"
 abbrev pub payingThere : Role → Payer → Bool
-payingThere Originating p = true
+payingThere Originating p = not (payerNobody p)
 payingThere Destination p = payerThere p
 
 abbrev pub payingOf : Role → Phase → Payer → Bool

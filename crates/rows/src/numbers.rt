@@ -15,8 +15,6 @@ pub const PART_ABSENT: u8 = 4;
 
 pub const NOT_A_CALL: u8 = 9;
 
-pub const NOBODY_PAYS: u8 = 10;
-
 // 02 #106 and #107: why there was no row, and what is judged before the fields.
 pub const WRONG_PHASE: u8 = 15;
 

@@ -20,7 +20,6 @@ use crate::Role;
 use crate::Side;
 use crate::Stand;
 use crate::numbers::APPLIED;
-use crate::numbers::NOBODY_PAYS;
 use crate::numbers::TOO_MUCH;
 use crate::read;
 use meters::Metered;
@@ -286,7 +285,7 @@ impl Call {
         )
     }
 
-    // 10 and 2 are the meters' own refusals.
+    // 2 is the meters' own refusal.
     fn does(self, p: Plan, r: Reading) -> Outcome
         ensures { λ out. ⌜ out ≡ doesOf self p r ⌝ }
     {
@@ -295,7 +294,6 @@ impl Call {
         let t = m.change(change, r.seconds);
         match t {
             Metered::Done(after) => self.follows(p, r, after),
-            Metered::NoPayer => self.refused(NOBODY_PAYS),
             Metered::TooMuch => self.refused(TOO_MUCH),
         }
     }

@@ -96,7 +96,7 @@ impl Call {
         }
     }
 
-    // The answer to one event, in any state and for any event: 9, then 17 or 20, then 3, then 1, 15 or 16, then 4, 10 and 2, or a row applied.
+    // The answer to one event, in any state and for any event: 9, then 17 or 20, then 3, then 1, 15 or 16, then 4 and 2, or a row applied.
     pub fn step(self, e: Event) -> Outcome
         ensures { λ out. ⌜ out ≡ stepOf self e ⌝ }
     {

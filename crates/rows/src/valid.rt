@@ -209,12 +209,12 @@ fn metered(role: Role, phase: Phase, m: Meters) -> bool
     }
 }
 
-// The payers of an ANSWERED call.
+// The payers of an ANSWERED call: there is one, and at a destination the caller is never charged.
 fn paying_there(role: Role, p: Payer) -> bool
     ensures { λ out. ⌜ out ≡ payingThere role p ⌝ }
 {
     match role {
-        Role::Originating => true,
+        Role::Originating => !payer_nobody(p),
         Role::Destination => payer_there(p),
     }
 }

@@ -6,7 +6,7 @@ pub give-spec : {M : Type 1} → statement M
 give-spec =
     tie.close
     (tie.spec
-    (λ c. λ κs. search needs) (λ c. search needs) (λ c. λ κs. search needs) (λ c. search needs) (λ c. search needs)
-    (λ c. simp (c .lasts .ensures, c .before .before .charged .given .1, ← c .before .before .before .before .charge .ensures))
-    (λ c. simp (c .enum-told .given .1, ← c .before .before .charge .ensures))
-    (λ c. simp (c .enum-told2 .given .1, ← c .before .before .charge .ensures)))
+    (λ c. search needs) (λ c. search needs) (λ c. λ κs. search needs) (λ c. search needs) (λ c. λ κs. search needs)
+    (λ c. search needs) (λ c. λ κs. search needs) (λ c. simp (c .enum-told .given .1))
+    (λ c. simp (c .adds .ensures, c .before .enum-told2 .given .1))
+    (λ c. simp (c .adds2 .ensures, c .before .enum-told3 .given .1)) (λ c. simp (c .adds3 .ensures, c .before .enum-told4 .given .1)))

@@ -7,7 +7,5 @@ does-spec =
     tie.close
     (tie.spec
     (λ c. λ κs. search needs) (λ c. search needs) (λ c. λ κs. search needs) (λ c. search needs) (λ c. λ κs. search needs)
-    (λ c. search needs) (λ c. λ κs. search needs)
     (λ c. simp (c .follows .ensures, c .before .before .t .given .1, ← c .before .before .before .before .change .ensures))
-    (λ c. simp (c .refused .ensures, c .before .enum-told .given .1, ← c .before .before .before .change .ensures))
-    (λ c. simp (c .refused2 .ensures, c .before .enum-told2 .given .1, ← c .before .before .before .change .ensures)))
+    (λ c. simp (c .refused .ensures, c .before .enum-told .given .1, ← c .before .before .before .change .ensures)))
