@@ -13,27 +13,25 @@ use Rattle.meters.specs.declared.Metered.{Metered}
 use Rattle.meters.specs.declared.Metered.the-variants.{Done, TooMuch}
 use Rattle.meters.specs.declared.Meters.{Meters}
 use Rattle.rows.specs.History.{run, history}
-use Rattle.rows.specs.Perform.{refusedAt, sideOf, orHeld, settledOf, performIf, performOf, appliesOf}
-use Rattle.rows.specs.Promises.{OtherDigits, the-same, another, sent, Redialled, opening, request, message, access, expiry, time}
+use Rattle.rows.specs.Perform.{refusedAt, sideOf, orHeld, settledOf, performIf, appliesOf}
+use Rattle.rows.specs.Promises.{OtherDigits, the-same, another, Redialled, opening, request, message, access, expiry, time}
 use Rattle.rows.specs.Promises.{AllRedialled, no-more, and-then, holding, Renumbered, renumbered, SameAnswer, numbers}
 use Rattle.rows.specs.Find.{rowForOf}
 use Rattle.rows.specs.Read.{bit, errorOf, kindOf, readOf, cueOf}
 use Rattle.rows.specs.Telephone.{national}
 use Rattle.rows.specs.Step.{ifRow, takesOf, ifInRange, isOpening, ifTimely, ifCall, stepOf}
 use Rattle.rows.specs.Valid.{tenTo, inRange, numberThere, numberAbsent, numberIf, codeOk, itemOk, presentThen, everyOne, firstFalse}
-use Rattle.rows.specs.Valid.{rangesOf, eventOk, badFieldOf, placedOf, meteredOf, payingOf, numbersHeld, validOf}
+use Rattle.rows.specs.Valid.{rangesOf, eventOk, badFieldOf, placedOf, meteredOf, payingOf, validOf}
 use Rattle.rows.specs.Why.{isRow}
 use Rattle.rows.specs.declared.Call.{Call}
 use Rattle.rows.specs.declared.Component.{Component}
 use Rattle.rows.specs.declared.Component.the-variants.{Absent}
 use Rattle.rows.specs.declared.Event.{Event}
-use Rattle.rows.specs.declared.Event.the-variants.{Opening, Ask, Received, FromAccess, Expiry, Time}
 use Rattle.rows.specs.declared.Flags.{Flags}
 use Rattle.rows.specs.declared.Kind.{Kind}
 use Rattle.rows.specs.declared.Kind.the-variants.{Opens, Asks, Tells, Expires, Passes}
 use Rattle.rows.specs.declared.Nature.{Nature}
 use Rattle.rows.specs.declared.Number.{Number}
-use Rattle.rows.specs.declared.Outcome.{Outcome}
 use Rattle.rows.specs.declared.Phase.{Phase}
 use Rattle.rows.specs.declared.Phase.the-variants.{Unopened, Null, Setup, Answered, Cleared}
 use Rattle.rows.specs.declared.Plan.{Plan}

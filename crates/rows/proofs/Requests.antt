@@ -7,7 +7,7 @@ use mathlib.Core.Bool.{Bool, true, false, _&&_, _||_, not}
 use Prim.Native.Nat.{ℕ}
 use native.Mathlib.Omega.{arith}
 use lib.Dec.{T, eqb, leb}
-use borrow.Author.Tests.{eqb-true, leb-true, not-true}
+use borrow.Author.Tests.{eqb-true, leb-true}
 use Rattle.meters.specs.Meters.{changeOf}
 use Rattle.rows.specs.Find.{rowForOf}
 use Rattle.rows.specs.Perform.{noteOf, noNote, performIf, performOf}
