@@ -38,7 +38,6 @@ enum answer {
     BAD_LENGTH = 6,
     UNKNOWN_KIND = 7,
     REFUSED = 8,
-    NOBODY_PAYS = 10,
     WRONG_PHASE = 15,
     WRONG_STATE = 16,
     BEFORE_OPENING = 17,
@@ -78,7 +77,7 @@ struct call {
     enum phase phase;
     enum rev rev;
     enum payer payer;
-    uint32_t meter[4]; /* seconds, by payer; nobody's stay 0 */
+    uint32_t meter[4]; /* seconds, by payer; nobody's stay 0, as somebody pays in ANSWERED */
     uint32_t total;    /* answered seconds: the meters' sum, until a Duration sets them (D47) */
     uint8_t flags;
     uint8_t transfer; /* agreed on: in WAIT-ANSWER, WAIT-SETUP-CONF and WAIT-ACTIVE-CONF */
@@ -1000,8 +999,6 @@ static enum answer pass(struct call *call, uint32_t seconds)
     case PHASE_SETUP: /* G2 */
         return APPLIED;
     case PHASE_ANSWERED: /* G3; sum and total are at most a year each, so neither can overflow */
-        if (call->payer == NOBODY)
-            return NOBODY_PAYS;
         if (call->meter[CALLER] + call->meter[CALLED] + call->meter[FAR] + seconds > YEAR)
             return TOO_MUCH;
         if (call->total + seconds > YEAR)

@@ -24,7 +24,6 @@ enum number {
     TOO_MUCH = 2,
     OUT_OF_RANGE = 3,
     PART_ABSENT = 4,
-    NOBODY_PAYS = 10,
     WRONG_PHASE = 15,
     WRONG_STATE,
     EARLY,
@@ -317,7 +316,7 @@ static unsigned answer(const struct file *before, const struct place *place, con
     line = last_line(&file);
     if (line.number != ROW && !is_at(&line, place))
         stop("a refused event changes the call");
-    return line.number == TOO_MUCH || line.number == PART_ABSENT || line.number == NOBODY_PAYS ? ROW : line.number;
+    return line.number == TOO_MUCH || line.number == PART_ABSENT ? ROW : line.number;
 }
 
 /* The same answer in both ways and with both settings. */

@@ -18,8 +18,7 @@ const ORIGINATING: usize = 40;
 const DESTINATION: usize = 60;
 const ROWS: usize = GENERAL + ORIGINATING + DESTINATION;
 
-/// The numbers that a history's listing can give. Number 9 judges calls that a host made up, and 10 needs an
-/// originating call in ANSWERED whose payer is nobody, which no history reaches.
+/// The numbers that a history's listing can give. Number 9 judges calls that a host made up.
 const NUMBERS: [usize; 14] = [0, 1, 2, 3, 4, 5, 6, 7, 8, 15, 16, 17, 19, 20];
 
 /// The rows that need a part (4), and the rows that add or take seconds (2).

@@ -73,7 +73,6 @@ pub enum Given {
     CutShort = 5,
     BadLength = 6,
     UnknownKind = 7,
-    NobodyPays = 10,
     WrongPhase = 15,
     WrongState = 16,
     BeforeOpening = 17,
@@ -176,13 +175,12 @@ pub struct Answer {
     pub actions: Vec<Action>,
 }
 
-/// Why a well-formed event is refused. The order is 17 or 20; 1, 15 or 16; 4, 10, 2: a row is found first, then its parts
-/// are looked for, then the payer, then the sums.
+/// Why a well-formed event is refused. The order is 17 or 20; 1, 15 or 16; 4, 2: a row is found first, then its parts are
+/// looked for, then the sums.
 #[derive(Clone, Copy, PartialEq, Eq, Debug)]
 enum Refusal {
     NoRow,
     PartAbsent(Row),
-    NobodyPays(Row),
     TooMuch(Row),
 }
 
@@ -250,18 +248,23 @@ impl Call {
         }
     }
 
-    /// What is wrong with the total of a call in whose history so many seconds were answered: "Every event keeps it
-    /// true" (02 #104), and no event leads to a call that would get 9.
-    fn wrong_total(&self, answered: u64) -> Option<&'static str> {
+    /// What is wrong with the payer or the total of a call in whose history so many seconds were answered: no event leads to a
+    /// call that would get 9. So "no history from an opening reaches an ANSWERED originating call with nobody as payer" (02
+    /// #108), nor such a call at a destination; and of the total, "Every event keeps it true" (02 #104).
+    fn wrong(&self, answered: u64) -> Option<&'static str> {
         let total = u64::from(self.total);
-        if total != answered {
-            Some("is not the answered seconds")
+        if self.phase == Phase::Answered && self.payer == Payer::Nobody {
+            Some("nobody pays in ANSWERED")
+        } else if self.phase != Phase::Answered && self.payer != Payer::Nobody {
+            Some("somebody pays outside ANSWERED")
+        } else if total != answered {
+            Some("the total is not the answered seconds")
         } else if self.role == Role::Originating && total != self.sum() {
-            Some("is not the sum of the originating meters")
+            Some("the total is not the sum of the originating meters")
         } else if total > u64::from(YEAR) {
-            Some("is above a year")
+            Some("the total is above a year")
         } else if total > 0 && !matches!(self.phase, Phase::Answered | Phase::Cleared) {
-            Some("is above 0 before the answer")
+            Some("the total is above 0 before the answer")
         } else {
             None
         }
@@ -313,7 +316,6 @@ impl Call {
                 refused(self.misplaced(event.is_opening()).unwrap_or_else(|| self.why_no_row(event)), None)
             }
             Err(Refusal::PartAbsent(row)) => refused(Given::PartAbsent, Some(row)),
-            Err(Refusal::NobodyPays(row)) => refused(Given::NobodyPays, Some(row)),
             Err(Refusal::TooMuch(row)) => refused(Given::TooMuch, Some(row)),
         }
     }
@@ -407,7 +409,8 @@ impl Call {
         let sum = self.sum() + u64::from(seconds);
         let total = u64::from(self.total) + u64::from(seconds);
         let meter = match self.payer {
-            Payer::Nobody => return Err(Refusal::NobodyPays(Row::G(3))),
+            // No meter runs, so nothing is counted. No call of a history is such a one (`wrong`).
+            Payer::Nobody => return Ok(step),
             Payer::Caller => &mut step.call.caller,
             Payer::Called => &mut step.call.called,
             Payer::Far => &mut step.call.far,
@@ -526,12 +529,12 @@ impl<'a> History<'a> {
         }
     }
 
-    /// No listing shows the total, so nothing else would tell.
-    fn check_total(&self, slot: u16) {
+    /// No listing shows the payer or the total, so nothing else would tell.
+    fn check(&self, slot: u16) {
         let answered = self.answered.get(usize::from(slot)).copied().unwrap_or(0);
         let call = self.board.call(slot);
-        if let Some(wrong) = call.wrong_total(answered) {
-            panic!("record {}: the total of slot {slot} {wrong}: {call:?}", self.shown);
+        if let Some(wrong) = call.wrong(answered) {
+            panic!("record {}, slot {slot}: {wrong}: {call:?}", self.shown);
         }
     }
 }
@@ -562,7 +565,7 @@ impl Iterator for History<'_> {
         if let Some(event) = &event {
             self.count(slot, from, event, &answer);
         }
-        self.check_total(slot);
+        self.check(slot);
         Some(Shown { ordinal, slot, in_slot, from, event, answer })
     }
 }
@@ -754,22 +757,84 @@ mod tests {
         let originating = after(opened(Role::Originating, 0), &basic);
         let destination = after(asked_after(5), &[result_with(3)]);
         let ringing = after(opened(Role::Destination, 0), &[plain(Name::Iam)]);
-        let wrong = |call: Call, total: u32, answered: u32| Call { total, ..call }.wrong_total(u64::from(answered));
+        let wrong = |call: Call, total: u32, answered: u32| Call { total, ..call }.wrong(u64::from(answered));
         assert_eq!([wrong(originating, 5, 5), wrong(destination, 5, 5), wrong(ringing, 0, 0)], [None; 3]);
         assert_eq!([wrong(destination, YEAR, YEAR), wrong(destination, 3, 3)], [None; 2], "the meters play no part");
-        assert_eq!(wrong(originating, 5, 6), Some("is not the answered seconds"));
-        assert_eq!(wrong(destination, 3, 5), Some("is not the answered seconds"));
-        assert_eq!(wrong(originating, 6, 6), Some("is not the sum of the originating meters"));
-        assert_eq!(wrong(destination, YEAR + 1, YEAR + 1), Some("is above a year"));
-        assert_eq!(wrong(ringing, 1, 1), Some("is above 0 before the answer"));
+        assert_eq!(wrong(originating, 5, 6), Some("the total is not the answered seconds"));
+        assert_eq!(wrong(destination, 3, 5), Some("the total is not the answered seconds"));
+        assert_eq!(wrong(originating, 6, 6), Some("the total is not the sum of the originating meters"));
+        assert_eq!(wrong(destination, YEAR + 1, YEAR + 1), Some("the total is above a year"));
+        assert_eq!(wrong(ringing, 1, 1), Some("the total is above 0 before the answer"));
     }
 
-    /// 10 is a host's alone, but the order puts it before 2.
+    /// All that rows tell apart: openings by role and flags, messages by component, transfer and partial, errors by whether they
+    /// are valid. Numbers and a Duration are always there: where one lacks, it is 4 or plays no part.
+    fn all_events() -> Vec<Event> {
+        let own = Digits { nature: Nature::National, count: 3, value: 42 };
+        let parts = [0, 1, 2, 3, 4, 5, 6, 7].map(|bits| Parts {
+            transfer_requested: bits & 1 != 0,
+            transfer_accepted: bits & 2 != 0,
+            as_transfer: bits & 2 != 0,
+            partial: bits & 4 != 0,
+            calling: Some(own),
+            called: Some(own),
+            duration: Some(0),
+        });
+        let operations = [Operation::Setup, Operation::Active, Operation::Called];
+        let mut components = vec![Component::None, Component::Error(0), Component::Error(4), Component::Reject];
+        components.extend(operations.map(Component::Invoke));
+        components.extend(operations.map(Component::Result));
+        let access =
+            [Access::Accept, Access::Error(0), Access::Error(4), Access::Reject, Access::Clear, Access::Answer];
+        let mut all = vec![Event::Expiry, Event::Time(0)];
+        all.extend([Ask::Basic, Ask::A, Ask::B, Ask::C].map(Event::Ask));
+        all.extend(access.map(Event::Access));
+        for role in [Role::Originating, Role::Destination] {
+            all.extend((0..32).map(|flags| Event::Opening { role, flags, own }));
+        }
+        for name in [Name::Iam, Name::Anm, Name::Con, Name::Rel, Name::Fac] {
+            for &component in &components {
+                all.extend(parts.map(|parts| message(name, component, parts)));
+            }
+        }
+        all
+    }
+
+    /// 02 #108: "no history from an opening reaches an ANSWERED originating call with nobody as payer". Every call that
+    /// histories without seconds reach is tried with every event, by all rows. Seconds decide nothing but 2.
     #[test]
-    fn nobody_pays() {
-        let call = after(opened(Role::Originating, 0), &[Event::Ask(Ask::Basic), plain(Name::Anm)]);
-        let made_up = Call { payer: Payer::Nobody, far: YEAR, total: YEAR, ..call };
-        assert_eq!(made_up.answer(&Event::Time(1)).given, Given::NobodyPays);
+    fn somebody_pays() {
+        let events = all_events();
+        let (mut calls, mut rows) = (vec![Call::before_opening()], Vec::new());
+        let mut tried = 0;
+        while let Some(&call) = calls.get(tried) {
+            tried += 1;
+            assert_eq!(call.wrong(0), None, "{call:?}");
+            let answers = events.iter().map(|event| call.answer(event));
+            for answer in answers.filter(|answer| answer.given == Given::Applied) {
+                if !calls.contains(&answer.call) {
+                    calls.push(answer.call);
+                }
+                rows.extend(answer.row.filter(|row| !rows.contains(row)));
+            }
+        }
+        assert_eq!(rows.len(), 5 + 40 + 60, "G, O and D");
+    }
+
+    /// Each payer that a phase has not is told.
+    #[test]
+    fn wrong_payers() {
+        let answered = after(opened(Role::Originating, 0), &[Event::Ask(Ask::Basic), plain(Name::Anm)]);
+        let cleared = after(answered, &[Event::Access(Access::Clear)]);
+        let wrong = |call: Call, payer: Payer| Call { payer, ..call }.wrong(0);
+        for call in [opened(Role::Originating, 0), opened(Role::Destination, 0), cleared] {
+            assert_eq!(wrong(call, Payer::Nobody), None);
+            assert_eq!(wrong(call, Payer::Far), Some("somebody pays outside ANSWERED"));
+        }
+        for call in [answered, asked_after(0)] {
+            assert_eq!(wrong(call, Payer::Far), None);
+            assert_eq!(wrong(call, Payer::Nobody), Some("nobody pays in ANSWERED"));
+        }
     }
 
     /// 02 #107: an opening begins anew where a call has cleared, in either role and with nothing of it left, and is 20 where one

@@ -2,7 +2,7 @@
 //! none. docs/ROWS.md has the same table.
 
 use crate::model::events::{Access, Ask, Component, Digits, Event, Message, Name, Operation, Parts, Role};
-use crate::model::{states, Call, Given, Phase, Rev};
+use crate::model::{states, Call, Given, Payer, Phase, Rev};
 
 pub const ROLES: [Role; 2] = [Role::Originating, Role::Destination];
 
@@ -65,9 +65,11 @@ pub fn phase_name(phase: Phase) -> &'static str {
     PHASES.iter().find(|(known, _)| *known == phase).map_or("NONE", |(_, word)| word)
 }
 
+/// A call in a place. In ANSWERED somebody pays, or it were no call state (02 #108); the far exchange can in either role.
 fn call(role: Role, phase: Phase, rev: Rev, flags: u8) -> Call {
     let own = Digits { count: 1, ..Digits::ABSENT };
-    Call { role, flags, own, phase, rev, ..Call::before_opening() }
+    let payer = if phase == Phase::Answered { Payer::Far } else { Payer::Nobody };
+    Call { role, flags, own, phase, rev, payer, ..Call::before_opening() }
 }
 
 /// The number that an event without a row gets in a place, or nothing where there is a row.
