@@ -160,11 +160,11 @@ moved m n p b f ea eb ef es h =
       total = omega (arith, g .total);
     }
 
-pub moved-to-called : (m n : Meters) → entireOf m Called (m .caller) 0 ≡ Done n → Moved m n Called
-moved-to-called m n h = moved m n Called (m .caller) 0 refl refl refl (omega arith) h
+pub moved-to-called : (m n : Meters) (s : ℕ) → changeOf EntireToCalled m s ≡ Done n → Moved m n Called
+moved-to-called m n s h = moved m n Called (m .caller) 0 refl refl refl (omega arith) h
 
-pub moved-to-far : (m n : Meters) → entireOf m Far 0 (m .caller) ≡ Done n → Moved m n Far
-moved-to-far m n h = moved m n Far 0 (m .caller) refl refl refl (omega arith) h
+pub moved-to-far : (m n : Meters) (s : ℕ) → changeOf EntireToFar m s ≡ Done n → Moved m n Far
+moved-to-far m n s h = moved m n Far 0 (m .caller) refl refl refl (omega arith) h
 
 -- case C at the destination: the Duration is all that the called user has used, and the total is what it was
 pub record Received (m n : Meters) (s : ℕ) : Type 0 where
@@ -230,8 +230,8 @@ total-grows CallerPays m n s i h = let e : paidByOf m Caller ≡ n = cc in omega
 total-grows CalledPays m n s i h = let e : paidByOf m Called ≡ n = cc in omega (arith, ap (λ (k : Meters). k .total) e)
 total-grows FarPays m n s i h = let e : paidByOf m Far ≡ n = cc in omega (arith, ap (λ (k : Meters). k .total) e)
 total-grows NobodyPays m n s i h = let e : paidByOf m Nobody ≡ n = cc in omega (arith, ap (λ (k : Meters). k .total) e)
-total-grows EntireToCalled m n s i h = let g = moved-to-called m n h in omega (arith, g .total)
-total-grows EntireToFar m n s i h = let g = moved-to-far m n h in omega (arith, g .total)
+total-grows EntireToCalled m n s i h = let g = moved-to-called m n s h in omega (arith, g .total)
+total-grows EntireToFar m n s i h = let g = moved-to-far m n s h in omega (arith, g .total)
 total-grows TimePasses m n s i h = let g = gave m n s (i refl) h in g .total
 total-grows DurationReceived m n s i h = let g = received m n s h in omega (arith, g .total)
 

@@ -345,8 +345,8 @@ changes r t u CallerPays m n s i z h =
 changes r t u CalledPays m n s i z h = talks r Called n u i (there r Called refl) (pays r t Called m n z h)
 changes r t u FarPays m n s i z h = talks r Far n u i (there r Far refl) (pays r t Far m n z h)
 changes r t u NobodyPays m n s i z h = ends r n u i (pays r t Nobody m n z h)
-changes r t u EntireToCalled m n s i z h = talks r Called n u i (there r Called refl) (moves r t Called m n refl z (moved-to-called m n h))
-changes r t u EntireToFar m n s i z h = talks r Far n u i (there r Far refl) (moves r t Far m n refl z (moved-to-far m n h))
+changes r t u EntireToCalled m n s i z h = talks r Called n u i (there r Called refl) (moves r t Called m n refl z (moved-to-called m n s h))
+changes r t u EntireToFar m n s i z h = talks r Far n u i (there r Far refl) (moves r t Far m n refl z (moved-to-far m n s h))
 changes r t u TimePasses m n s i z h =
     let z′ = subst (λ (v : Age). Sound r v m) (is-talking t (left (isTalking t) _ i)) z in
     talks r (m .payer) n u (right (isTalking t) _ i) (z′ .paying) (ticks r m n s z′ h)

@@ -10,7 +10,8 @@ use lib.Dec.{eqb, leb}
 use borrow.Author.Tests.{not-true}
 use Rattle.meters.proofs.Laws
 use Rattle.meters.proofs.Laws.{Gave, gave, Moved, moved-to-called, moved-to-far}
-use Rattle.meters.specs.Meters.{newOf, paidByOf, giveOf, entireOf}
+use Rattle.meters.specs.Meters.{newOf, paidByOf, giveOf, changeOf}
+use Rattle.meters.specs.declared.Change.the-variants.{EntireToCalled, EntireToFar}
 use Rattle.meters.specs.declared.Metered.the-variants.{Done}
 use Rattle.meters.specs.declared.Meters.{Meters}
 use Rattle.meters.specs.declared.Payer.{Payer}
@@ -324,9 +325,9 @@ module _ (f : ℕ) (u v w : Number) (a r : Bool) (d : Mark) (m : Message) (s : S
     plan-BC Allowed false true true = turned (switches false z)
     plan-BC Allowed true l true = turned (switches true z)
     plan-BC Allowed false true false =
-        settled (GoodC false) (entireOf n Called (n .caller) 0) _ _ _ (λ n′ h. turned (moves false z (moved-to-called n n′ h))) (search states)
+        settled (GoodC false) (changeOf EntireToCalled n 0) _ _ _ (λ n′ h. turned (moves false z (moved-to-called n n′ 0 h))) (search states)
     plan-BC Allowed true l false =
-        settled (GoodC true) (entireOf n Far 0 (n .caller)) _ _ _ (λ n′ h. turned (moves true z (moved-to-far n n′ h))) (search states)
+        settled (GoodC true) (changeOf EntireToFar n 0) _ _ _ (λ n′ h. turned (moves true z (moved-to-far n n′ 0 h))) (search states)
     plan-BC Allowed false false true = search states
     plan-BC Allowed false false false = search states
 
