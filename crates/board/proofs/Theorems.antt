@@ -1,4 +1,4 @@
--- THE THEOREMS about a row of calls, each with its sentence of 02 #107, to be read alone. What they speak of is defined in specs/:
+-- THE THEOREMS about a row of calls, each with its sentence of 02 #107 or #108, to be read alone. What they speak of is defined in specs/:
 -- Row.antt (`answerAt` and `rowAfter`, the answer to an event at a slot and the row that it leaves; `lowestFree`, the answer to the
 -- question for a free slot; `runRow`, `ownOf` and `stepsAt`, any list of events, each at the slot that it names) and Promises.antt (the
 -- rest). A row has any length, and a slot is a place of it below 64; `getElem? cs i` is the call in the slot i of the row cs, or none. The
