@@ -64,31 +64,28 @@ over : (b : Bool) (x : Meters) → unlessPast b x ≡ TooMuch → b ≡ false
 over true x h = cc
 over false x h = refl
 
-module _ (m n : Meters) (a b f l : ℕ) (h : addsOf m a b f l ≡ Done n) where
-  let-through : (leb (sumOf m + (a + b + f)) limit ≡ true) × (leb (m .total + l) limit ≡ true)
-      × (record { caller = m .caller + a; called = m .called + b; far = m .far + f; payer = m .payer; total = m .total + l } ≡ n)
-  let-through = passed _ _ _ n h
-
-  -- p's meter took all of it
-  added : (p : Payer) (s : ℕ) → a ≡ share Caller p s → b ≡ share Called p s → f ≡ share Far p s → a + b + f ≡ s → Gave m n p s l
-  added p s ea eb ef es =
-      let sums : sumOf m + (a + b + f) ≤ limit = leb-true _ _ (let-through .0) in
-      let lasts : m .total + l ≤ limit = leb-true _ _ (let-through .1) in
-      let caller : n .caller ≡ m .caller + a = sym (ap (λ (x : Meters). x .caller) (let-through .2)) in
-      let called : n .called ≡ m .called + b = sym (ap (λ (x : Meters). x .called) (let-through .2)) in
-      let far : n .far ≡ m .far + f = sym (ap (λ (x : Meters). x .far) (let-through .2)) in
-      let payer : n .payer ≡ m .payer = sym (ap (λ (x : Meters). x .payer) (let-through .2)) in
-      let total : n .total ≡ m .total + l = sym (ap (λ (x : Meters). x .total) (let-through .2)) in
-      record {
-        caller = omega (arith, caller, ea);
-        called = omega (arith, called, eb);
-        far = omega (arith, far, ef);
-        payer = payer;
-        sum = omega (arith, caller, called, far, es);
-        bound = omega (arith, caller, called, far, sums);
-        total = total;
-        within = omega (arith, total, lasts);
-      }
+-- p's meter took all of it
+added : (m n : Meters) (a b f l : ℕ) → addsOf m a b f l ≡ Done n → (p : Payer) (s : ℕ) →
+    a ≡ share Caller p s → b ≡ share Called p s → f ≡ share Far p s → a + b + f ≡ s → Gave m n p s l
+added m n a b f l h p s ea eb ef es =
+    let e = passed (leb (sumOf m + (a + b + f)) limit) (leb (m .total + l) limit) _ n h in
+    let sums : sumOf m + (a + b + f) ≤ limit = leb-true _ _ (e .0) in
+    let lasts : m .total + l ≤ limit = leb-true _ _ (e .1) in
+    let caller : n .caller ≡ m .caller + a = omega (arith, ap (λ (x : Meters). x .caller) (e .2)) in
+    let called : n .called ≡ m .called + b = omega (arith, ap (λ (x : Meters). x .called) (e .2)) in
+    let far : n .far ≡ m .far + f = omega (arith, ap (λ (x : Meters). x .far) (e .2)) in
+    let payer : n .payer ≡ m .payer = sym (ap (λ (x : Meters). x .payer) (e .2)) in
+    let total : n .total ≡ m .total + l = omega (arith, ap (λ (x : Meters). x .total) (e .2)) in
+    record {
+      caller = omega (arith, caller, ea);
+      called = omega (arith, called, eb);
+      far = omega (arith, far, ef);
+      payer = payer;
+      sum = omega (arith, caller, called, far, es);
+      bound = omega (arith, caller, called, far, sums);
+      total = total;
+      within = omega (arith, total, lasts);
+    }
 
 -- ---- A tick
 
