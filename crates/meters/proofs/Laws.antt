@@ -20,7 +20,7 @@ use Rattle.meters.specs.declared.Metered.the-variants.{Done, TooMuch}
 use Rattle.meters.specs.Meters.{limit, newOf, sumOf, paidByOf, unlessPast, addsOf, givesTo, giveOf, entireOf, receivedOf}
 use Rattle.meters.specs.Meters.{changeOf}
 
--- s where the two payers are one, else nothing
+-- s where the two payers are one, and somebody; else nothing
 abbrev pub share : Payer → Payer → ℕ → ℕ
 share Nobody Nobody s = 0
 share Nobody Caller s = 0
@@ -39,7 +39,7 @@ share Far Caller s = 0
 share Far Called s = 0
 share Far Far s = s
 
--- the meters n follow the meters m when the payer p took s seconds and the call lasted l seconds more
+-- the meters n follow the meters m when p's meter took s seconds and the call lasted l seconds more
 pub record Gave (m n : Meters) (p : Payer) (s l : ℕ) : Type 0 where
   pub caller : n .caller ≡ m .caller + share Caller p s
   pub called : n .called ≡ m .called + share Called p s
@@ -49,10 +49,6 @@ pub record Gave (m n : Meters) (p : Payer) (s l : ℕ) : Type 0 where
   pub bound : sumOf n ≤ limit
   pub total : n .total ≡ m .total + l
   pub within : n .total ≤ limit
-
--- s seconds more on the meters, and l on the total, keep the sum and the total within the limit
-abbrev room : Meters → ℕ → ℕ → Bool
-room m s l = leb (sumOf m + s) limit && leb (m .total + l) limit
 
 -- both tests held, and the meters are those that they let through
 passed : (a b : Bool) (x n : Meters) → unlessPast (a && b) x ≡ Done n → (a ≡ true) × (b ≡ true) × (x ≡ n)
@@ -105,16 +101,16 @@ nobody-charged m s h = ap (λ (p : Payer). givesTo p m s) h
 
 -- s seconds more keep the sum and the total within the limit
 abbrev pub fits : Meters → ℕ → Bool
-fits m s = room m s s
+fits m s = leb (sumOf m + s) limit && leb (m .total + s) limit
 
-past : (m : Meters) (a b f l s : ℕ) → a + b + f ≡ s → addsOf m a b f l ≡ TooMuch → room m s l ≡ false
-past m a b f l s e h = sym (ap (λ (t : ℕ). room m t l) e) ∙ over _ _ h
+past : (m : Meters) (a b f s : ℕ) → a + b + f ≡ s → addsOf m a b f s ≡ TooMuch → fits m s ≡ false
+past m a b f s e h = sym (ap (λ (t : ℕ). leb (sumOf m + t) limit && leb (m .total + s) limit) e) ∙ over _ _ h
 
 past-to : (p : Payer) (m : Meters) (s : ℕ) → givesTo p m s ≡ TooMuch → fits m s ≡ false
 past-to Nobody m s h = cc
-past-to Caller m s h = past m s 0 0 s s (omega arith) h
-past-to Called m s h = past m 0 s 0 s s (omega arith) h
-past-to Far m s h = past m 0 0 s s s (omega arith) h
+past-to Caller m s h = past m s 0 0 s (omega arith) h
+past-to Called m s h = past m 0 s 0 s (omega arith) h
+past-to Far m s h = past m 0 0 s s (omega arith) h
 
 -- It is too much only where the sum or the total would pass the limit ..
 pub too-much : (m : Meters) (s : ℕ) → giveOf m s ≡ TooMuch → fits m s ≡ false
@@ -136,7 +132,7 @@ paid-by-keeps m p = (refl, refl)
 
 -- case C: the caller's seconds, all of them, are the payer's, and the sum and the total are what they were
 pub record Moved (m n : Meters) (p : Payer) : Type 0 where
-  pub caller : n .caller ≡ share Caller p (m .caller)
+  pub caller : n .caller ≡ 0
   pub called : n .called ≡ m .called + share Called p (m .caller)
   pub far : n .far ≡ m .far + share Far p (m .caller)
   pub payer : n .payer ≡ p
@@ -149,7 +145,7 @@ moved m n p b f ea eb ef es h =
     let g : Gave (record { caller = 0; called = m .called; far = m .far; payer = p; total = m .total }) n p (m .caller) 0 =
     added _ n 0 b f 0 h p (m .caller) ea eb ef (omega (arith, es)) in
     record {
-      caller = omega (arith, g .caller);
+      caller = omega (arith, g .caller, ea);
       called = g .called;
       far = g .far;
       payer = g .payer;
@@ -172,7 +168,7 @@ pub record Received (m n : Meters) (s : ℕ) : Type 0 where
   pub bound : sumOf n ≤ limit
   pub total : n .total ≡ m .total
 
-pub received : (m n : Meters) (s : ℕ) → receivedOf m s ≡ Done n → Received m n s
+pub received : (m n : Meters) (s : ℕ) → changeOf DurationReceived m s ≡ Done n → Received m n s
 received m n s h =
     let g : Gave (record { caller = m .caller; called = 0; far = 0; payer = Called; total = m .total }) n Called s 0 =
     added _ n 0 s 0 0 h Called s refl refl refl (omega arith) in
@@ -251,18 +247,19 @@ done-if : (P : Metered → Type 0) (a b : Bool) (x : Meters) → a ≡ true → 
 done-if P a b x h i d =
     subst (λ (t : Bool). P (unlessPast (t && b) x)) (sym h) (subst (λ (t : Bool). P (unlessPast t x)) (sym i) d)
 
-adds-fit : (P : Metered → Type 0) (m : Meters) (a b f : ℕ) → sumOf m + (a + b + f) ≤ limit → m .total ≤ limit → ((n : Meters) → P (Done n)) →
-    P (addsOf m a b f 0)
-adds-fit P m a b f h i d =
+adds-fit : (P : Metered → Type 0) (m : Meters) (b f : ℕ) → sumOf m + (b + f) ≤ limit → m .total ≤ limit → ((n : Meters) → P (Done n)) →
+    P (addsOf m 0 b f 0)
+adds-fit P m b f h i d =
+    let sums : sumOf m + (0 + b + f) ≤ limit = omega (arith, h) in
     let lasts : m .total + 0 ≤ limit = omega (arith, i) in
-    done-if P (leb (sumOf m + (a + b + f)) limit) (leb (m .total + 0) limit) _ (le-leb _ _ h) (le-leb _ _ lasts) (d _)
+    done-if P (leb (sumOf m + (0 + b + f)) limit) (leb (m .total + 0) limit) _ (le-leb _ _ sums) (le-leb _ _ lasts) (d _)
 
 -- case C moves what was within the limit
 pub entire-fits : (P : Metered → Type 0) (m : Meters) (p : Payer) (b f : ℕ) → b + f ≡ m .caller → sumOf m ≤ limit → m .total ≤ limit →
     ((n : Meters) → P (Done n)) → P (entireOf m p b f)
-entire-fits P m p b f e h i d = adds-fit P _ 0 b f (omega (arith, e, h)) i d
+entire-fits P m p b f e h i d = adds-fit P _ b f (omega (arith, e, h)) i d
 
 -- a Duration within the limit is taken
 pub duration-fits : (P : Metered → Type 0) (m : Meters) (s : ℕ) → m .caller + s ≤ limit → m .total ≤ limit → ((n : Meters) → P (Done n)) →
     P (receivedOf m s)
-duration-fits P m s h i d = adds-fit P _ 0 s 0 (omega (arith, h)) i d
+duration-fits P m s h i d = adds-fit P _ s 0 (omega (arith, h)) i d

@@ -117,7 +117,7 @@ impl Meters {
         })
     }
 
-    // Time passes in the answered call: the payer's meter takes all of the seconds, and the total has them too. Where nobody pays no meter
+    // Time passes in the answered call: the payer's meter takes all of the seconds, and the total has them too. Where nobody pays neither
     // runs.
     pub fn give(self, seconds: u32) -> Metered
         ensures { λ out. ⌜ out ≡ giveOf self seconds ⌝ }

@@ -45,16 +45,13 @@ use Rattle.rows.specs.declared.Role.the-variants.{Originating, Destinati
 use Rattle.rows.proofs.Answers.{row-decides, opened-then, isUnopened}
 use Rattle.rows.proofs.Payers.{answered-paid}
 use Rattle.rows.proofs.Placed.{placed}
-use Rattle.rows.proofs.Stays.{within-limit}
+use Rattle.rows.proofs.Stays.{valid-metered, within-limit}
 use Rattle.rows.proofs.Truth.{differ, left, right, both, either}
 
 -- ---- What 9 leaves of a call: its place in the table, and at a destination no caller's seconds
 
 pub valid-place : (c : Call) → validOf c ≡ true → placedOf (c .side .role) (c .stand .phase) (c .stand .rev) ≡ true
 valid-place c v = left _ _ v
-
-valid-metered : (c : Call) → validOf c ≡ true → meteredOf (c .side .role) (c .stand .phase) (c .meters) ≡ true
-valid-metered c v = left _ _ (right (placedOf (c .side .role) (c .stand .phase) (c .stand .rev)) _ v)
 
 -- ---- Time
 

@@ -44,7 +44,7 @@ use Rattle.rows.specs.declared.Stand.{Stand}
 use Rattle.rows.proofs.Found.{implies, so, Test, holds, stepped}
 use Rattle.rows.proofs.Answers.{planFor}
 use Rattle.rows.proofs.Ranges.{message-in-range}
-use Rattle.rows.proofs.Truth.{both, differ, left, or-none, right}
+use Rattle.rows.proofs.Truth.{and-true, both, differ, left, or-none, right}
 
 -- ---- Numbers: those that an event in range carries are in range
 
@@ -102,7 +102,7 @@ pub data Age : Type 0 where
   talking : Age
   over : Age
 
-abbrev pub ageOf : Phase → Age
+abbrev ageOf : Phase → Age
 ageOf Unopened = before
 ageOf Null = before
 ageOf Setup = before
@@ -114,7 +114,7 @@ meteredIn r before m = unmetered m
 meteredIn r talking m = tallied r m
 meteredIn r over m = tallied r m
 
-abbrev pub payingIn : Role → Age → Payer → Bool
+abbrev payingIn : Role → Age → Payer → Bool
 payingIn r before p = payerNobody p
 payingIn r talking p = payingThere r p
 payingIn r over p = payerNobody p
@@ -281,10 +281,10 @@ pays r t p m n z h =
     subst (λ (k : Meters). Left r p k) e
     (record { tally = paid-tally r m p (in-order r t m (z .metered)); within = z .within; payer = refl })
 
-moves : (r : Role) (t : Age) (p : Payer) (m n : Meters) → payerThere p ≡ true → Sound r t m → Moved m n p → Left r p n
-moves r t p m n i z g =
+moves : (r : Role) (t : Age) (p : Payer) (m n : Meters) → Sound r t m → Moved m n p → Left r p n
+moves r t p m n z g =
     record {
-      tally = same-tally r m n (g .caller ∙ not-callers p (m .caller) i) (g .sum) (g .total) (in-order r t m (z .metered));
+      tally = same-tally r m n (g .caller) (g .sum) (g .total) (in-order r t m (z .metered));
       within = ap (λ (x : ℕ). leb x limit) (g .sum) ∙ z .within;
       payer = g .payer;
     }
@@ -345,8 +345,8 @@ changes r t u CallerPays m n s i z h =
 changes r t u CalledPays m n s i z h = talks r Called n u i (there r Called refl) (pays r t Called m n z h)
 changes r t u FarPays m n s i z h = talks r Far n u i (there r Far refl) (pays r t Far m n z h)
 changes r t u NobodyPays m n s i z h = ends r n u i (pays r t Nobody m n z h)
-changes r t u EntireToCalled m n s i z h = talks r Called n u i (there r Called refl) (moves r t Called m n refl z (moved-to-called m n s h))
-changes r t u EntireToFar m n s i z h = talks r Far n u i (there r Far refl) (moves r t Far m n refl z (moved-to-far m n s h))
+changes r t u EntireToCalled m n s i z h = talks r Called n u i (there r Called refl) (moves r t Called m n z (moved-to-called m n s h))
+changes r t u EntireToFar m n s i z h = talks r Far n u i (there r Far refl) (moves r t Far m n z (moved-to-far m n s h))
 changes r t u TimePasses m n s i z h =
     let z′ = subst (λ (v : Age). Sound r v m) (is-talking t (left (isTalking t) _ i)) z in
     talks r (m .payer) n u (right (isTalking t) _ i) (z′ .paying) (ticks r m n s z′ h)
@@ -446,7 +446,7 @@ before-answer Setup = refl
 before-answer Answered = refl
 before-answer Cleared = refl
 
-nobody : (p : Payer) → payerNobody p ≡ true → p ≡ Nobody
+pub nobody : (p : Payer) → payerNobody p ≡ true → p ≡ Nobody
 nobody Nobody h = refl
 nobody Caller h = differ h
 nobody Called h = differ h
@@ -468,6 +468,18 @@ totals-within Originating t m z =
     let l : sumOf m ≤ limit = leb-true _ _ (z .within) in
     omega (arith, e, l)
 totals-within Destination t m z = total-held m (in-order Destination t m (z .metered))
+
+pub valid-metered : (c : Call) → validOf c ≡ true → meteredOf (c .side .role) (c .stand .phase) (c .meters) ≡ true
+valid-metered c v = metered (c .side .role) (c .stand .phase) (c .meters) ∙ good c v .sound .metered
+
+pub valid-paying : (c : Call) → validOf c ≡ true → payingOf (c .side .role) (c .stand .phase) (c .meters .payer) ≡ true
+valid-paying c v = paying (c .side .role) (c .stand .phase) (c .meters .payer) ∙ good c v .sound .paying
+
+-- where a call stands in its place, with a sum within the limit and numbers in range, its meters and its payer decide
+pub by-meters : (s : Side) (at : Stand) (m : Meters) → placedOf (s .role) (at .phase) (at .rev) ≡ true → withinOf m ≡ true → numbersHeld s ≡ true →
+    validOf (record { side = s; stand = at; meters = m }) ≡ (meteredOf (s .role) (at .phase) m && payingOf (s .role) (at .phase) (m .payer))
+by-meters s at m i j k =
+    rw (i, j, k) (ap (λ (b : Bool). meteredOf (s .role) (at .phase) m && b) (and-true (payingOf (s .role) (at .phase) (m .payer))))
 
 -- ---- THE THEOREMS
 
@@ -500,10 +512,6 @@ nine-exactly c e =
 pub never-nine : (c : Call) (es : List Event) → validOf c ≡ true → noneIs 9 (history c es) ≡ true
 never-nine c [] v = refl
 never-nine c (e ∷ es) v = both (ap not (nine-exactly c e ∙ ap not v)) (never-nine (stepOf c e .call) es (call-stays c e v))
-
--- So no step of any history from before the opening has it.
-pub never-nine-from-unopened : (es : List Event) → noneIs 9 (history unopenedCall es) ≡ true
-never-nine-from-unopened es = never-nine unopenedCall es unopened-valid
 
 -- The meters of a call: new before ANSWERED, and always within the limit, the sum of them and the total.
 pub new-before-answer : (c : Call) → validOf c ≡ true → leb (placeIn (c .stand .phase)) 2 ≡ true → c .meters ≡ newOf

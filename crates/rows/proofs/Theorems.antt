@@ -130,13 +130,17 @@ new-before-answer = Stays.new-before-answer
 pub within-limit : (c : Call) → validOf c ≡ true → (sumOf (c .meters) ≤ 31536000) × (totalOf c ≤ 31536000)
 within-limit = Stays.within-limit
 
--- A call with another payer is no call exactly if that payer does not fit (`payerFits`: outside ANSWERED nobody pays; in it somebody does, and
--- at a destination called or far) ..
+-- Outside ANSWERED nobody pays, in CLEARED too ..
+pub nobody-outside : (c : Call) → validOf c ≡ true → isAnswered (c .stand .phase) ≡ false → c .meters .payer ≡ Nobody
+nobody-outside = Payers.nobody-outside
+
+-- .. and a call with another payer is no call exactly if that payer does not fit (`payerFits`: outside ANSWERED nobody pays; in it somebody does, and
+-- at a destination called or far).
 pub nine-by-payer : (c : Call) (p : Payer) (e : Event) → validOf c ≡ true →
     eqb (stepOf (withPayer p c) e .number) 9 ≡ not (payerFits (c .side .role) (c .stand .phase) p)
 nine-by-payer = Payers.nine-by-payer
 
--- .. and whatever else it holds, an ANSWERED call with nobody as payer is none: every event is answered by 9 (02 #108).
+-- Whatever else it holds, an ANSWERED call with nobody as payer is none: every event is answered by 9 (02 #108).
 pub nobody-is-nine : (c : Call) (e : Event) → c .stand .phase ≡ Answered → c .meters .payer ≡ Nobody → stepOf c e ≡ refusedAt 9 0 c
 nobody-is-nine = Payers.nobody-is-nine
 
@@ -303,9 +307,9 @@ pub pays-now : (f : ℕ) (own : Number) → opening f own .number ≡ 0 → (es 
     run (opening f own .call) es .meters .payer ≡ payer (reversal (marks f plain (history (opening f own .call) es))) true
 pays-now = Reversal.pays-now
 
--- Somebody pays: no history from an opening, whatever is opened after it, reaches ANSWERED with nobody as payer (02 #108).
-pub somebody-pays : (f : ℕ) (own : Number) → opening f own .number ≡ 0 → (es : List Event) →
-    run (opening f own .call) es .stand .phase ≡ Answered → run (opening f own .call) es .meters .payer ≡ Nobody → ⊥
+-- Somebody pays (02 #108): no history of a call reaches ANSWERED with nobody as payer, at either exchange and whatever is opened on the way. A
+-- call that was never opened is one (`unopened-valid`), and so is the one that an opening makes of it (`call-stays`).
+pub somebody-pays : (c : Call) (es : List Event) → validOf c ≡ true → run c es .stand .phase ≡ Answered → run c es .meters .payer ≡ Nobody → ⊥
 somebody-pays = Payers.somebody-pays
 
 -- A reversal takes effect once at most, from the latest opening on.

@@ -36,7 +36,7 @@ use Rattle.rows.proofs.Payers.{answered-paid}
 use Rattle.rows.proofs.Phases
 use Rattle.rows.proofs.Phases.{isOpens}
 use Rattle.rows.proofs.Stays
-use Rattle.rows.proofs.Truth.{alike, are-alike, both, left, right}
+use Rattle.rows.proofs.Truth.{alike, and-true, are-alike, left, right}
 use Rattle.rows.proofs.Whole
 use Rattle.rows.proofs.Whole.{by-kind, first-unopening, rest-unopening}
 
@@ -176,21 +176,14 @@ in-place Destination Answered m t h = limit-there m t h
 in-place Originating Cleared m t h = refl
 in-place Destination Cleared m t h = limit-there m t h
 
--- the parts of a call's validity that no total touches
-rest-holds : (a x y p q : Bool) → a ≡ true → y ≡ true → (p && q) ≡ true → (a && (x && (y && (p && q)))) ≡ x
-rest-holds a true y p q i j k = both i (both j k)
-rest-holds a false y p q i j k = ap (λ (b : Bool). b && false) i
-
 valid-with : (c : Call) (t : ℕ) → validOf c ≡ true → validOf (withTotal t c) ≡ totalFits (c .side .role) (c .stand .phase) (sumOf (c .meters)) t
 valid-with c t v =
-    let r = c .side .role in
-    let ph = c .stand .phase in
-    let m = c .meters in
-    let k = right (placedOf r ph (c .stand .rev)) _ v in
-    let l = right (meteredOf r ph m) _ k in
-    rest-holds (placedOf r ph (c .stand .rev)) (meteredOf r ph (retotalled t m)) (withinOf m) (payingOf r ph (m .payer)) (numbersHeld (c .side))
-    (left (placedOf r ph (c .stand .rev)) _ v) (left (withinOf m) _ l) (right (withinOf m) _ l)
-    ∙ in-place r ph m t (left (meteredOf r ph m) _ k)
+    let g = Stays.good c v in
+    let m = retotalled t (c .meters) in
+    Stays.by-meters (c .side) (c .stand) m (g .placed) (g .sound .within) (g .held)
+    ∙ ap (λ (b : Bool). meteredOf (c .side .role) (c .stand .phase) m && b) (Stays.valid-paying c v)
+    ∙ and-true (meteredOf (c .side .role) (c .stand .phase) m)
+    ∙ in-place (c .side .role) (c .stand .phase) (c .meters) t (Stays.valid-metered c v)
 
 pub nine-by-total : (c : Call) (t : ℕ) (e : Event) → validOf c ≡ true →
     eqb (stepOf (withTotal t c) e .number) 9 ≡ not (totalFits (c .side .role) (c .stand .phase) (sumOf (c .meters)) t)

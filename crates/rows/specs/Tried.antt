@@ -256,20 +256,30 @@ full = refl
 abbrev paidBy : Payer → Event → ℕ
 paidBy p e = stepOf (withPayer p (talked 40)) e .number
 
-abbrev full-unpaid : Call
-full-unpaid =
-    record {
-      side = talked 0 .side;
-      stand = talked 0 .stand;
-      meters = record { caller = 31536000; called = 0; far = 0; payer = Payer.Nobody; total = 31536000 };
-    }
-
 somebody-talks : (paidBy Payer.Caller (Time 1) ≡ 0) × (paidBy Payer.Called (Time 1) ≡ 0) × (paidBy Payer.Far (Time 1) ≡ 0)
 somebody-talks = (refl, refl, refl)
 
 nobody-talks : (paidBy Payer.Nobody (Time 1) ≡ 9) × (paidBy Payer.Nobody (Opening 0 8 room) ≡ 9) × (paidBy Payer.Nobody (Time 86401) ≡ 9)
-    × (paidBy Payer.Nobody (FromAccess 4 0) ≡ 9) × (paidBy Payer.Nobody Expiry ≡ 9) × (stepOf full-unpaid (Time 1) .number ≡ 9)
+    × (paidBy Payer.Nobody (FromAccess 4 0) ≡ 9) × (paidBy Payer.Nobody Expiry ≡ 9) × (stepOf (withPayer Payer.Nobody (talked 31536000)) (Time 1) .number ≡ 9)
 nobody-talks = (refl, refl, refl, refl, refl, refl)
+
+-- at a destination called or far may pay, and nobody outside ANSWERED, in either role
+abbrev expiry-by : Payer → Call → ℕ
+expiry-by p c = stepOf (withPayer p c) Expiry .number
+
+there-pays : (expiry-by Payer.Called (served Idle 40 40) ≡ 16) × (expiry-by Payer.Far (served Idle 40 40) ≡ 16)
+    × (expiry-by Payer.Caller (served Idle 40 40) ≡ 9) × (expiry-by Payer.Nobody (served Idle 40 40) ≡ 9)
+there-pays = (refl, refl, refl, refl)
+
+abbrev rung : Call
+rung = after unopenedCall (Opening 0 8 room ∷ Ask 0 room ∷ [])
+
+abbrev cleared : Call
+cleared = after (talked 40) (FromAccess 4 0 ∷ [])
+
+outside-nobody : (expiry-by Payer.Nobody rung ≡ 16) × (expiry-by Payer.Caller rung ≡ 9) × (expiry-by Payer.Far rung ≡ 9)
+    × (expiry-by Payer.Nobody cleared ≡ 15) × (expiry-by Payer.Caller cleared ≡ 9) × (expiry-by Payer.Called cleared ≡ 9)
+outside-nobody = (refl, refl, refl, refl, refl, refl)
 
 -- what an expiry is answered in IDLE, where the call holds this total: 16, it has no row there; or 9
 abbrev expiry-with : ℕ → Call → ℕ
