@@ -8,7 +8,7 @@ use mathlib.Core.Logic.{_⊎_, inl, inr}
 use mathlib.Core.Option.{some}
 use Prim.Native.Nat.{ℕ, _≤_}
 use native.Mathlib.Omega.{arith}
-use borrow.Author.Tests.{eqb-true, eqb-false}
+use borrow.Author.Tests.{eqb-true}
 use lib.Dec.{eqb}
 use lib.ListN.{take, getElem?}
 use Rattle.text.proofs.Cases.{both-lt, both-eq}
@@ -28,7 +28,7 @@ use Rattle.files.proofs.Shown.{kth-shown, slot-answer}
 
 -- What holds of 5, 6, 7 and 19, and of the number of every answer that events from before an opening can reach, holds of every number on a
 -- listing.
-pub numbers-hold : (P : ℕ → Type 0) → P 5 → P 6 → P 7 → P 19 → ((es : List Event) (e : Event) → P (stepOf (run unopenedCall es) e .number)) →
+numbers-hold : (P : ℕ → Type 0) → P 5 → P 6 → P 7 → P 19 → ((es : List Event) (e : Event) → P (stepOf (run unopenedCall es) e .number)) →
     (s : List ℕ) (k : ℕ) (x : Shown) → getElem? (shownOf s) k ≡ some x → P (x .answer .number)
 numbers-hold P a b c d each s k x h = by (kth-shown s k x h .1)
   where
@@ -47,15 +47,6 @@ numbers-hold P a b c d each s k x h = by (kth-shown s k x h .1)
     by : AnswersEntry s k (x .slot) (x .answer) ⊎ RefusesRecord s k (x .slot) (x .answer) → P (x .answer .number)
     by (inl (y, g, p, q)) = subst (λ (o : Outcome). P (o .number)) (sym q) (at-slot (x .slot) (take k (entriesOf s)) (y .event))
     by (inr (n, p, q, w, l, m, r)) = subst (λ (o : Outcome). P (o .number)) (sym r) (five-to-seven n p q)
-
--- no answer to a history from before an opening is 9
-not-nine : (es : List Event) (e : Event) → eqb (stepOf (run unopenedCall es) e .number) 9 ≡ false
-not-nine es e = nine-exactly (run unopenedCall es) e ∙ ap not (calls-stay unopenedCall es unopened-valid)
-
-pub no-nine : (s : List ℕ) (k : ℕ) (x : Shown) → getElem? (shownOf s) k ≡ some x → x .answer .number ≡ 9 → ⊥
-no-nine =
-    numbers-hold (λ (n : ℕ). n ≡ 9 → ⊥) (λ e. omega arith) (λ e. omega arith) (λ e. omega arith) (λ e. omega arith)
-    (λ es e. eqb-false _ 9 (not-nine es e))
 
 -- what a call gives, but 9, may stand on a line
 call-listed : (n : ℕ) → given n ≡ true → eqb n 9 ≡ false → onALine n ≡ true
@@ -76,4 +67,8 @@ call-listed n g h =
 pub numbers-listed : (s : List ℕ) (k : ℕ) (x : Shown) → getElem? (shownOf s) k ≡ some x → onALine (x .answer .number) ≡ true
 numbers-listed =
     numbers-hold (λ (n : ℕ). onALine n ≡ true) refl refl refl refl
-    (λ es e. call-listed (stepOf (run unopenedCall es) e .number) (all-given (run unopenedCall es) e) (not-nine es e))
+    (λ es e. call-listed (stepOf (run unopenedCall es) e .number) (all-given (run unopenedCall es) e)
+    (nine-exactly (run unopenedCall es) e ∙ ap not (calls-stay unopenedCall es unopened-valid)))
+
+pub no-nine : (s : List ℕ) (k : ℕ) (x : Shown) → getElem? (shownOf s) k ≡ some x → x .answer .number ≡ 9 → ⊥
+no-nine s k x h e = differ (sym (ap onALine e) ∙ numbers-listed s k x h)

@@ -1,30 +1,40 @@
 -- SOMEBODY PAYS: an ANSWERED call has a payer, at either exchange. What 9 leaves says so, and a call stays a call (Stays.antt): so no history
--- reaches ANSWERED with nobody as payer, and such a call that a host hands in is none.
+-- reaches ANSWERED with nobody as payer, and such a call that a host hands in is none. And at a destination the payer is far until this
+-- exchange charges.
 -- Assumes nothing.
 use mathlib.Core.Path.{_≡_, refl, sym, _∙_, ap}
 use mathlib.Core.Bool.{Bool, true, false, _&&_, _||_, not}
 use mathlib.Core.List.{List}
 use Prim.Native.Nat.{ℕ}
 use lib.Dec.{eqb}
-use Rattle.meters.specs.Meters.{withinOf}
+use Rattle.meters.proofs.Laws.{gave}
+use Rattle.meters.specs.Meters.{paidByOf, changeOf}
+use Rattle.meters.specs.declared.Change.{Change}
+use Rattle.meters.specs.declared.Change.the-variants.{Keep, Begin, CallerPays, CalledPays, FarPays, NobodyPays, EntireToCalled}
+use Rattle.meters.specs.declared.Change.the-variants.{EntireToFar, TimePasses, DurationReceived}
+use Rattle.meters.specs.declared.Metered.the-variants.{Done}
+use Rattle.meters.specs.declared.Meters.{Meters}
 use Rattle.meters.specs.declared.Payer.{Payer}
 use Rattle.meters.specs.declared.Payer.the-variants.{Nobody, Caller, Called, Far}
-use Rattle.rows.specs.Bill.{isAnswered, same}
+use Rattle.rows.specs.Bill.{isAnswered, isRev, same}
 use Rattle.rows.specs.History.{run}
-use Rattle.rows.specs.Perform.{refusedAt}
-use Rattle.rows.specs.Promises.{withPayer, payerFits}
+use Rattle.rows.specs.Perform.{refusedAt, standOf}
+use Rattle.rows.specs.Promises.{withPayer, payerFits, asBefore}
+use Rattle.rows.specs.Read.{readOf}
 use Rattle.rows.specs.Step.{ifCall, stepOf}
-use Rattle.rows.specs.Valid.{placedOf, payerNobody, payerThere, meteredOf, payingOf, numbersHeld, validOf}
+use Rattle.rows.specs.Valid.{payerNobody, payerThere, meteredOf, payingOf, validOf}
 use Rattle.rows.specs.declared.Call.{Call}
 use Rattle.rows.specs.declared.Event.{Event}
-use Rattle.rows.specs.declared.Event.the-variants.{Opening}
-use Rattle.rows.specs.declared.Number.{Number}
+use Rattle.rows.specs.declared.Outcome.{Outcome}
 use Rattle.rows.specs.declared.Phase.{Phase}
 use Rattle.rows.specs.declared.Phase.the-variants.{Unopened, Null, Setup, Answered, Cleared}
+use Rattle.rows.specs.declared.RevState.the-variants.{Active}
 use Rattle.rows.specs.declared.Role.{Role}
 use Rattle.rows.specs.declared.Role.the-variants.{Originating, Destination}
+use Rattle.rows.proofs.Answers.{planFor}
+use Rattle.rows.proofs.Found.{implies, so, Test, holds, stepped}
 use Rattle.rows.proofs.Stays.{good, nobody, somebody, valid-metered, valid-paying, by-meters, calls-stay, nine-exactly}
-use Rattle.rows.proofs.Truth.{both, differ, left, right}
+use Rattle.rows.proofs.Truth.{differ}
 
 in-phase : (r : Role) (ph : Phase) (p : Payer) → payingOf r ph p ≡ true → isAnswered ph ≡ true → p ≡ Nobody → ⊥
 in-phase r Unopened p h a = differ a
@@ -99,3 +109,107 @@ valid-with c p v =
 pub nine-by-payer : (c : Call) (p : Payer) (e : Event) → validOf c ≡ true →
     eqb (stepOf (withPayer p c) e .number) 9 ≡ not (payerFits (c .side .role) (c .stand .phase) p)
 nine-by-payer c p e v = nine-exactly (withPayer p c) e ∙ ap not (valid-with c p v)
+
+-- ---- At a destination: far until this exchange charges
+
+-- a change that leaves the payer; one that names far
+abbrev leaves : Change → Bool
+leaves Keep = true
+leaves Begin = false
+leaves CallerPays = false
+leaves CalledPays = false
+leaves FarPays = false
+leaves NobodyPays = false
+leaves EntireToCalled = false
+leaves EntireToFar = false
+leaves TimePasses = true
+leaves DurationReceived = false
+
+abbrev namesFar : Change → Bool
+namesFar Keep = false
+namesFar Begin = false
+namesFar CallerPays = false
+namesFar CalledPays = false
+namesFar FarPays = true
+namesFar NobodyPays = false
+namesFar EntireToCalled = false
+namesFar EntireToFar = false
+namesFar TimePasses = false
+namesFar DurationReceived = false
+
+left-alone : (x : Change) (m n : Meters) (s : ℕ) → (m .payer ≡ Nobody → ⊥) → changeOf x m s ≡ Done n → leaves x ≡ true → n .payer ≡ m .payer
+left-alone Keep m n s p h k = let e : m ≡ n = cc in sym (ap (λ (y : Meters). y .payer) e)
+left-alone Begin m n s p h k = differ k
+left-alone CallerPays m n s p h k = differ k
+left-alone CalledPays m n s p h k = differ k
+left-alone FarPays m n s p h k = differ k
+left-alone NobodyPays m n s p h k = differ k
+left-alone EntireToCalled m n s p h k = differ k
+left-alone EntireToFar m n s p h k = differ k
+left-alone TimePasses m n s p h k = gave m n s p h .payer
+left-alone DurationReceived m n s p h k = differ k
+
+far-named : (x : Change) (m n : Meters) (s : ℕ) → changeOf x m s ≡ Done n → namesFar x ≡ true → n .payer ≡ Far
+far-named Keep m n s h k = differ k
+far-named Begin m n s h k = differ k
+far-named CallerPays m n s h k = differ k
+far-named CalledPays m n s h k = differ k
+far-named FarPays m n s h k = let e : paidByOf m Far ≡ n = cc in sym (ap (λ (y : Meters). y .payer) e)
+far-named NobodyPays m n s h k = differ k
+far-named EntireToCalled m n s h k = differ k
+far-named EntireToFar m n s h k = differ k
+far-named TimePasses m n s h k = differ k
+far-named DurationReceived m n s h k = differ k
+
+-- in ANSWERED the payer stays, from SETUP it is far, and from nowhere else does a row lead to ANSWERED
+abbrev asPhase : Phase → Change → Bool
+asPhase Unopened x = false
+asPhase Null x = false
+asPhase Setup x = namesFar x
+asPhase Answered x = leaves x
+asPhase Cleared x = false
+
+abbrev isDestination : Role → Bool
+isDestination Originating = false
+isDestination Destination = true
+
+-- every plan at a destination that leads to ANSWERED and does not put reverse charging in effect
+abbrev farUntil : Test
+farUntil r now k p =
+    implies (isDestination r)
+    (implies (eqb (p .number) 0)
+    (implies (isAnswered (standOf (p .next) now .phase))
+    (implies (isRev Active (now .rev) || not (isRev Active (standOf (p .next) now .rev))) (asPhase (now .phase) (p .change)))))
+
+unless-new : (a b : Bool) → (b ≡ true → a ≡ true) → (a || not b) ≡ true
+unless-new true b h = refl
+unless-new false true h = h refl
+unless-new false false h = refl
+
+still-before : (ph : Phase) (q : Payer) → isAnswered ph ≡ true → q ≡ asBefore ph q
+still-before Unopened q a = refl
+still-before Null q a = refl
+still-before Setup q a = differ a
+still-before Answered q a = refl
+still-before Cleared q a = refl
+
+module _ (m n : Meters) (x : Change) (s : ℕ) (h : changeOf x m s ≡ Done n) where
+  by-phase : (ph : Phase) → (isAnswered ph ≡ true → m .payer ≡ Nobody → ⊥) → asPhase ph x ≡ true → n .payer ≡ asBefore ph (m .payer)
+  by-phase Unopened p k = differ k
+  by-phase Null p k = differ k
+  by-phase Setup p k = far-named x m n s h k
+  by-phase Answered p k = left-alone x m n s (p refl) h k
+  by-phase Cleared p k = differ k
+
+pub far-until-charged : (c : Call) (e : Event) → c .side .role ≡ Destination → isAnswered (stepOf c e .call .stand .phase) ≡ true →
+    (isRev Active (stepOf c e .call .stand .rev) ≡ true → isRev Active (c .stand .rev) ≡ true) →
+    stepOf c e .call .meters .payer ≡ asBefore (c .stand .phase) (c .meters .payer)
+far-until-charged c e r =
+    stepped
+    (λ (o : Outcome). isAnswered (o .call .stand .phase) ≡ true → (isRev Active (o .call .stand .rev) ≡ true → isRev Active (c .stand .rev) ≡ true) →
+    o .call .meters .payer ≡ asBefore (c .stand .phase) (c .meters .payer))
+    c e (λ v a i. still-before (c .stand .phase) (c .meters .payer) a) (λ n k v p q a i. still-before (c .stand .phase) (c .meters .payer) a)
+    (λ n d a i.
+    by-phase (c .meters) n (planFor c e .change) (readOf e .seconds) (d .meters) (c .stand .phase) (answered-paid c (d .valid))
+    (so _ _ (so _ _ (so _ _ (so _ _ (holds farUntil (λ e′ t x y. refl) c e) (ap isDestination r)) (d .row)) a)
+    (unless-new (isRev Active (c .stand .rev)) _ i)))

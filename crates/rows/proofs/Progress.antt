@@ -19,7 +19,7 @@ use Rattle.rows.specs.Promises.{calledTurns, setupTold, answeredTold, me
 use Rattle.rows.specs.Read.{bit, lowest, interactionBy, modeBy, extentBy}
 use Rattle.rows.specs.Rows
 use Rattle.rows.specs.Step.{totalOf, takesOf, isOpening, stepOf}
-use Rattle.rows.specs.Valid.{placedOf, meteredOf, validOf, eventOk}
+use Rattle.rows.specs.Valid.{placedOf, validOf, eventOk}
 use Rattle.rows.specs.declared.Call.{Call}
 use Rattle.rows.specs.declared.Component.{Component}
 use Rattle.rows.specs.declared.Component.the-variants.{Absent, Invoke, Result, Error, Reject, Unknown}

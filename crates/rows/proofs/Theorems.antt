@@ -18,7 +18,7 @@ use Rattle.rows.specs.Bill.{bitAt, isAnswered, isRev, answered, Case, pl
 use Rattle.rows.specs.Bill.{Step, pick, opens, noneOpens, line}
 use Rattle.rows.specs.History.{run, written, history, opening}
 use Rattle.rows.specs.Perform.{refusedAt}
-use Rattle.rows.specs.Promises.{NothingDone, AsFresh, noneIs, withPayer, payerFits, Answering, runs, inCall, Clears, chargedBy, placeIn}
+use Rattle.rows.specs.Promises.{NothingDone, AsFresh, noneIs, withPayer, payerFits, Answering, runs, inCall, Clears, asBefore, chargedBy, placeIn}
 use Rattle.rows.specs.Promises.{isFacility, tellsRunning, asksReversal, isInvoke, errorIs, toldRunning, sentRunning}
 use Rattle.rows.specs.Promises.{saysNoRow, requestHasRow, invokeHasRow, given}
 use Rattle.rows.specs.Promises.{openingThere, secondsThere, noDuration, lastedIn, withTotal, totalFits}
@@ -353,6 +353,13 @@ destination-caller = Destination.destination-caller
 
 pub opens-there-in-range : (f : ℕ) (own : Number) → eventOk (Opening 1 f own) ≡ true → openingThere f own .number ≡ 0
 opens-there-in-range = Destination.opens-there-in-range
+
+-- "far until this exchange charges": at a destination the answer names far, and in the answered call the payer stays (`asBefore`), whatever the
+-- event, unless it puts reverse charging in effect. So no request, no invoke and no refusal of one moves the payer.
+pub far-until-charged : (c : Call) (e : Event) → c .side .role ≡ Destination → isAnswered (stepOf c e .call .stand .phase) ≡ true →
+    (isRev Active (stepOf c e .call .stand .rev) ≡ true → isRev Active (c .stand .rev) ≡ true) →
+    stepOf c e .call .meters .payer ≡ asBefore (c .stand .phase) (c .meters .payer)
+far-until-charged = Payers.far-until-charged
 
 -- Where the own access's word puts reverse charging in effect, the called user is charged here if transfer was agreed, and else far, or
 -- whoever was charged in the answered call: never both exchanges.

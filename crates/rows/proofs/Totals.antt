@@ -10,7 +10,7 @@ use Prim.Native.Nat.{ℕ, _+_}
 use native.Mathlib.Omega.{arith}
 use lib.Dec.{eqb, leb}
 use Rattle.meters.proofs.Laws.{timed, begins, onlyIf, total-grows}
-use Rattle.meters.specs.Meters.{limit, sumOf, withinOf}
+use Rattle.meters.specs.Meters.{limit, sumOf}
 use Rattle.meters.specs.declared.Meters.{Meters}
 use Rattle.meters.specs.declared.Payer.the-variants.{Nobody}
 use Rattle.rows.specs.Bill.{pick, Step, counted, isTime, secondsIn, isAnswered, times, sum, answered, anOpening, opens, noneOpens}
@@ -18,7 +18,7 @@ use Rattle.rows.specs.History.{run, written, history, opening}
 use Rattle.rows.specs.Promises.{lastedIn, retotalled, withTotal, totalFits, openingThere}
 use Rattle.rows.specs.Read.{readOf}
 use Rattle.rows.specs.Step.{unopenedCall, totalOf, ifInRange, stepOf}
-use Rattle.rows.specs.Valid.{placedOf, unmetered, tallied, meteredOf, payingOf, numbersHeld, validOf, eventOk}
+use Rattle.rows.specs.Valid.{unmetered, tallied, meteredOf, validOf, eventOk}
 use Rattle.rows.specs.declared.Call.{Call}
 use Rattle.rows.specs.declared.Event.{Event}
 use Rattle.rows.specs.declared.Event.the-variants.{Opening, Ask, Received, FromAccess, Expiry, Time}
