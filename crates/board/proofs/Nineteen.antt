@@ -1,5 +1,5 @@
--- No call's own answer is 19 or 21, so those numbers say that there is no such slot, and that none is free, and nothing else. It rests on the
--- theorem of the rows that says which numbers a call gives back (`never-given`).
+-- No call's own answer is 19, so that number says that there is no such slot, and nothing else. It rests on the theorem of the rows that says
+-- which numbers a call gives back (`never-given`).
 -- Assumes nothing.
 use mathlib.Core.Path.{_≡_, refl, sym, ap, _∙_}
 use mathlib.Core.Bool.{Bool, true, false}
@@ -20,9 +20,6 @@ use Rattle.board.proofs.Laws.{at-place, answer-is, past-63, past-the-en
 
 pub never-nineteen : (c : Call) (e : Event) → stepOf c e .number ≡ 19 → ⊥
 never-nineteen = never-given 19 refl
-
-pub never-twenty-one : (c : Call) (e : Event) → stepOf c e .number ≡ 21 → ⊥
-never-twenty-one = never-given 21 refl
 
 pub nineteen-exactly : (cs : List Call) (i : ℕ) (e : Event) → (answerAt cs i e .number ≡ 19) ↔ ((i < slots) × (i < length cs) → ⊥)
 nineteen-exactly cs i e = (

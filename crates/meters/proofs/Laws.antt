@@ -5,10 +5,12 @@
 -- Assumes nothing.
 use mathlib.Core.Path.{_≡_, refl, sym, ap, subst, _∙_}
 use mathlib.Core.Bool.{Bool, true, false, _&&_, not}
+use mathlib.Core.List.{[], _∷_}
 use Prim.Native.Nat.{ℕ, _+_, _≤_}
 use native.Mathlib.Omega.{arith}
-use lib.Dec.{leb}
-use borrow.Author.Tests.{leb-true, le-leb}
+use lib.Dec.{leb, eqb}
+use lib.ListN.{getD}
+use borrow.Author.Tests.{leb-true, le-leb, eqb-true}
 use Rattle.meters.specs.declared.Payer.{Payer}
 use Rattle.meters.specs.declared.Payer.the-variants.{Nobody, Caller, Called, Far}
 use Rattle.meters.specs.declared.Meters.{Meters}
@@ -183,31 +185,48 @@ received m n s h =
 
 -- ---- What the total counts, of every change
 
--- the change by which time passes
-abbrev pub timed : Change → Bool
-timed Keep = false
-timed Begin = false
-timed CallerPays = false
-timed CalledPays = false
-timed FarPays = false
-timed NobodyPays = false
-timed EntireToCalled = false
-timed EntireToFar = false
-timed TimePasses = true
-timed DurationReceived = false
+-- changes by their number, so that one is told from the others
+abbrev numberOf : Change → ℕ
+numberOf Keep = 0
+numberOf Begin = 1
+numberOf CallerPays = 2
+numberOf CalledPays = 3
+numberOf FarPays = 4
+numberOf NobodyPays = 5
+numberOf EntireToCalled = 6
+numberOf EntireToFar = 7
+numberOf TimePasses = 8
+numberOf DurationReceived = 9
 
--- the change by which a call begins anew
+abbrev changeAt : ℕ → Change
+changeAt n =
+    getD
+    (Keep ∷ Begin ∷ CallerPays ∷ CalledPays ∷ FarPays ∷ NobodyPays ∷ EntireToCalled ∷ EntireToFar ∷ TimePasses ∷ DurationReceived ∷ []) n Keep
+
+back : (x : Change) → changeAt (numberOf x) ≡ x
+back Keep = refl
+back Begin = refl
+back CallerPays = refl
+back CalledPays = refl
+back FarPays = refl
+back NobodyPays = refl
+back EntireToCalled = refl
+back EntireToFar = refl
+back TimePasses = refl
+back DurationReceived = refl
+
+abbrev pub is : Change → Change → Bool
+is x y = eqb (numberOf x) (numberOf y)
+
+pub is-that : (x y : Change) → is x y ≡ true → x ≡ y
+is-that x y h = sym (back x) ∙ ap changeAt (eqb-true (numberOf x) (numberOf y) h) ∙ back y
+
+-- the change by which time passes, and the one by which a call begins anew
+abbrev pub timed : Change → Bool
+timed x = is TimePasses x
+
 abbrev pub begins : Change → Bool
-begins Keep = false
-begins Begin = true
-begins CallerPays = false
-begins CalledPays = false
-begins FarPays = false
-begins NobodyPays = false
-begins EntireToCalled = false
-begins EntireToFar = false
-begins TimePasses = false
-begins DurationReceived = false
+begins x = is Begin x
 
 abbrev pub onlyIf : Bool → ℕ → ℕ
 onlyIf true s = s
@@ -230,16 +249,7 @@ total-grows DurationReceived m n s i h = let g = received m n s h in omega (arit
 
 -- A call that begins anew has new meters, whatever they were.
 pub begun : (x : Change) (m n : Meters) (s : ℕ) → begins x ≡ true → changeOf x m s ≡ Done n → newOf ≡ n
-begun Keep m n s b h = cc
-begun Begin m n s b h = cc
-begun CallerPays m n s b h = cc
-begun CalledPays m n s b h = cc
-begun FarPays m n s b h = cc
-begun NobodyPays m n s b h = cc
-begun EntireToCalled m n s b h = cc
-begun EntireToFar m n s b h = cc
-begun TimePasses m n s b h = cc
-begun DurationReceived m n s b h = cc
+begun x m n s b h = let e : Done newOf ≡ Done n = ap (λ (y : Change). changeOf y m s) (is-that Begin x b) ∙ h in cc
 
 -- ---- What is not refused: what holds of all meters that were done holds of a change that fits
 

@@ -4,7 +4,7 @@ use mathlib.Core.Path.{_≡_, refl, sym, _∙_, ap}
 use mathlib.Core.Bool.{Bool, true, false}
 use Prim.Native.Nat.{ℕ}
 use lib.Dec.{eqb}
-use borrow.Author.Tests.{eq-eqb, ne-eqb}
+use borrow.Author.Tests.{ne-eqb}
 use Rattle.meters.specs.declared.Metered.{Metered}
 use Rattle.meters.specs.declared.Metered.the-variants.{Done, TooMuch}
 use Rattle.meters.specs.declared.Meters.{Meters}
@@ -213,12 +213,6 @@ module _ (c : Call) (e : Event) (r : Reading) (q : Cue) (x : Row) (g : r ≡ rea
 
 -- .. and before it, whether the event comes in its time
 module _ (c : Call) (e : Event) (v : validOf c ≡ true) (n : ℕ) (g : n ≡ untimelyOf (c .stand .phase) (isOpening e)) where
-  in-time : (b : Bool) → eqb n 0 ≡ b → inTime b n c e ≡ stepOf c e
-  in-time b h =
-      sym (ap (λ (x : Bool). ifCall x c e) v ∙ ap (λ (k : ℕ). inTime (eqb k 0) k c e) (sym g) ∙ ap (λ (x : Bool). inTime x n c e) h)
-
-  pub step-timely : n ≡ 0 → ifInRange (eventOk e) c e ≡ stepOf c e
-  step-timely h = in-time true (eq-eqb n 0 h)
-
   pub step-untimely : (n ≡ 0 → ⊥) → refusedOf n c ≡ stepOf c e
-  step-untimely h = in-time false (ne-eqb n 0 h)
+  step-untimely h =
+      sym (ap (λ (x : Bool). ifCall x c e) v ∙ ap (λ (k : ℕ). inTime (eqb k 0) k c e) (sym g) ∙ ap (λ (x : Bool). inTime x n c e) (ne-eqb n 0 h))

@@ -6,7 +6,7 @@ use Prim.Native.Nat.{ℕ}
 use native.Mathlib.Omega.{arith}
 use lib.Dec.{eqb, leb}
 use borrow.Author.Tests.{eqb-true}
-use Rattle.meters.proofs.Laws.{received}
+use Rattle.meters.proofs.Laws.{received, is, is-that}
 use Rattle.meters.specs.Meters.{receivedOf, changeOf}
 use Rattle.meters.specs.declared.Change.{Change}
 use Rattle.meters.specs.declared.Meters.{Meters}
@@ -82,22 +82,10 @@ isRel Kind.Tells = false
 isRel Kind.Expires = false
 isRel Kind.Passes = false
 
-abbrev nobodys : Change → Bool
-nobodys Change.Keep = false
-nobodys Change.Begin = false
-nobodys Change.CallerPays = false
-nobodys Change.CalledPays = false
-nobodys Change.FarPays = false
-nobodys Change.NobodyPays = true
-nobodys Change.EntireToCalled = false
-nobodys Change.EntireToFar = false
-nobodys Change.TimePasses = false
-nobodys Change.DurationReceived = false
-
 abbrev endsAll : Test
 endsAll r now k p =
     implies (placedOf r (now .phase) (now .rev)) (implies (inCall (now .phase)) (implies (isRel k)
-    (eqb (p .number) 0 && (eqb (placeIn (standOf (p .next) now .phase)) 4 && nobodys (p .change)))))
+    (eqb (p .number) 0 && (eqb (placeIn (standOf (p .next) now .phase)) 4 && is Change.NobodyPays (p .change)))))
 
 top : (p : Phase) → eqb (placeIn p) 4 ≡ true → p ≡ Cleared
 top Unopened h = differ h
@@ -105,18 +93,6 @@ top Null h = differ h
 top Setup h = differ h
 top Answered h = differ h
 top Cleared h = refl
-
-nobody-pays : (x : Change) → nobodys x ≡ true → x ≡ Change.NobodyPays
-nobody-pays Change.Keep h = differ h
-nobody-pays Change.Begin h = differ h
-nobody-pays Change.CallerPays h = differ h
-nobody-pays Change.CalledPays h = differ h
-nobody-pays Change.FarPays h = differ h
-nobody-pays Change.NobodyPays h = refl
-nobody-pays Change.EntireToCalled h = differ h
-nobody-pays Change.EntireToFar h = differ h
-nobody-pays Change.TimePasses h = differ h
-nobody-pays Change.DurationReceived h = differ h
 
 ends : (c : Call) (p : Plan) (r : Reading) → eqb (p .number) 0 ≡ true → p .change ≡ Change.NobodyPays → standOf (p .next) (c .stand) .phase ≡ Cleared →
     Clears (performOf c p r)
@@ -137,7 +113,7 @@ rel-clears c m v k i h =
     let y = right (eqb (planFor c (Received m) .number) 0) _ z in
     subst Clears (sym (row-decides c (Received m) v (opened-then inCall (c .stand .phase) refl i) refl k ∙ has-plan c (Received m) (not-one (planFor c (Received m) .number) (left (eqb (planFor c (Received m) .number) 0) _ z))))
     (ends c (planFor c (Received m)) (readOf (Received m)) (left _ _ z)
-    (nobody-pays _ (right (eqb (placeIn (standOf (planFor c (Received m) .next) (c .stand) .phase)) 4) _ y)) (top _ (left _ _ y)))
+    (sym (is-that Change.NobodyPays _ (right (eqb (placeIn (standOf (planFor c (Received m) .next) (c .stand) .phase)) 4) _ y))) (top _ (left _ _ y)))
 
 -- ---- Who is charged at the destination
 

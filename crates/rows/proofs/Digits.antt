@@ -263,6 +263,3 @@ numbers-alike y no-more = refl
 numbers-alike {c} {d} y (and-then {e = e} {e′ = e′} {es = es} {es′ = es′} z zs) =
     ap (λ (n : ℕ). n ∷ numbers (history (stepOf c e .call) es)) (step-alike y z .number)
     ∙ ap (λ (ns : List ℕ). stepOf d e′ .number ∷ ns) (numbers-alike (step-alike y z .call) zs)
-
-pub same-meters : {c d : Call} → Renumbered c d → c .meters ≡ d .meters
-same-meters (renumbered u v w) = refl

@@ -7,12 +7,12 @@ use mathlib.Core.Bool.{Bool, true, false, _&&_, _||_, not}
 use mathlib.Core.List.{List}
 use Prim.Native.Nat.{ℕ}
 use lib.Dec.{eqb}
-use Rattle.meters.proofs.Laws.{gave}
-use Rattle.meters.specs.Meters.{paidByOf, changeOf}
+use Rattle.meters.proofs.Laws.{gave, is, is-that}
+use Rattle.meters.specs.Meters.{changeOf}
 use Rattle.meters.specs.declared.Change.{Change}
-use Rattle.meters.specs.declared.Change.the-variants.{Keep, Begin, CallerPays, CalledPays, FarPays, NobodyPays, EntireToCalled}
-use Rattle.meters.specs.declared.Change.the-variants.{EntireToFar, TimePasses, DurationReceived}
-use Rattle.meters.specs.declared.Metered.the-variants.{Done}
+use Rattle.meters.specs.declared.Change.the-variants.{Keep, FarPays, TimePasses}
+use Rattle.meters.specs.declared.Metered.{Metered}
+use Rattle.meters.specs.declared.Metered.the-variants.{Done, TooMuch}
 use Rattle.meters.specs.declared.Meters.{Meters}
 use Rattle.meters.specs.declared.Payer.{Payer}
 use Rattle.meters.specs.declared.Payer.the-variants.{Nobody, Caller, Called, Far}
@@ -33,8 +33,8 @@ use Rattle.rows.specs.declared.Role.{Role}
 use Rattle.rows.specs.declared.Role.the-variants.{Originating, Destination}
 use Rattle.rows.proofs.Answers.{planFor}
 use Rattle.rows.proofs.Found.{implies, so, Test, holds, stepped}
-use Rattle.rows.proofs.Stays.{good, nobody, somebody, valid-metered, valid-paying, by-meters, calls-stay, nine-exactly}
-use Rattle.rows.proofs.Truth.{differ}
+use Rattle.rows.proofs.Stays.{isDestination, good, nobody, somebody, valid-metered, valid-paying, by-meters, calls-stay, nine-exactly}
+use Rattle.rows.proofs.Truth.{differ, either}
 
 in-phase : (r : Role) (ph : Phase) (p : Payer) → payingOf r ph p ≡ true → isAnswered ph ≡ true → p ≡ Nobody → ⊥
 in-phase r Unopened p h a = differ a
@@ -112,66 +112,32 @@ nine-by-payer c p e v = nine-exactly (withPayer p c) e ∙ ap not (valid-with c 
 
 -- ---- At a destination: far until this exchange charges
 
--- a change that leaves the payer; one that names far
+abbrev payerIn : Metered → Payer
+payerIn (Done n) = n .payer
+payerIn TooMuch = Nobody
+
+-- a change that leaves the payer
 abbrev leaves : Change → Bool
-leaves Keep = true
-leaves Begin = false
-leaves CallerPays = false
-leaves CalledPays = false
-leaves FarPays = false
-leaves NobodyPays = false
-leaves EntireToCalled = false
-leaves EntireToFar = false
-leaves TimePasses = true
-leaves DurationReceived = false
+leaves x = is Keep x || is TimePasses x
 
-abbrev namesFar : Change → Bool
-namesFar Keep = false
-namesFar Begin = false
-namesFar CallerPays = false
-namesFar CalledPays = false
-namesFar FarPays = true
-namesFar NobodyPays = false
-namesFar EntireToCalled = false
-namesFar EntireToFar = false
-namesFar TimePasses = false
-namesFar DurationReceived = false
+module _ (m n : Meters) (x : Change) (s : ℕ) (h : changeOf x m s ≡ Done n) where
+  as-that : (y : Change) → is y x ≡ true → changeOf y m s ≡ Done n
+  as-that y i = ap (λ (z : Change). changeOf z m s) (is-that y x i) ∙ h
 
-left-alone : (x : Change) (m n : Meters) (s : ℕ) → (m .payer ≡ Nobody → ⊥) → changeOf x m s ≡ Done n → leaves x ≡ true → n .payer ≡ m .payer
-left-alone Keep m n s p h k = let e : m ≡ n = cc in sym (ap (λ (y : Meters). y .payer) e)
-left-alone Begin m n s p h k = differ k
-left-alone CallerPays m n s p h k = differ k
-left-alone CalledPays m n s p h k = differ k
-left-alone FarPays m n s p h k = differ k
-left-alone NobodyPays m n s p h k = differ k
-left-alone EntireToCalled m n s p h k = differ k
-left-alone EntireToFar m n s p h k = differ k
-left-alone TimePasses m n s p h k = gave m n s p h .payer
-left-alone DurationReceived m n s p h k = differ k
+  left-alone : (m .payer ≡ Nobody → ⊥) → leaves x ≡ true → n .payer ≡ m .payer
+  left-alone p k =
+      either (is Keep x) (is TimePasses x) k (λ i. sym (ap (λ (y : Metered). payerIn y) (as-that Keep i))) (λ i. gave m n s p (as-that TimePasses i) .payer)
 
-far-named : (x : Change) (m n : Meters) (s : ℕ) → changeOf x m s ≡ Done n → namesFar x ≡ true → n .payer ≡ Far
-far-named Keep m n s h k = differ k
-far-named Begin m n s h k = differ k
-far-named CallerPays m n s h k = differ k
-far-named CalledPays m n s h k = differ k
-far-named FarPays m n s h k = let e : paidByOf m Far ≡ n = cc in sym (ap (λ (y : Meters). y .payer) e)
-far-named NobodyPays m n s h k = differ k
-far-named EntireToCalled m n s h k = differ k
-far-named EntireToFar m n s h k = differ k
-far-named TimePasses m n s h k = differ k
-far-named DurationReceived m n s h k = differ k
+  far-named : is FarPays x ≡ true → n .payer ≡ Far
+  far-named i = sym (ap (λ (y : Metered). payerIn y) (as-that FarPays i))
 
 -- in ANSWERED the payer stays, from SETUP it is far, and from nowhere else does a row lead to ANSWERED
 abbrev asPhase : Phase → Change → Bool
 asPhase Unopened x = false
 asPhase Null x = false
-asPhase Setup x = namesFar x
+asPhase Setup x = is FarPays x
 asPhase Answered x = leaves x
 asPhase Cleared x = false
-
-abbrev isDestination : Role → Bool
-isDestination Originating = false
-isDestination Destination = true
 
 -- every plan at a destination that leads to ANSWERED and does not put reverse charging in effect
 abbrev farUntil : Test
@@ -193,13 +159,13 @@ still-before Setup q a = differ a
 still-before Answered q a = refl
 still-before Cleared q a = refl
 
-module _ (m n : Meters) (x : Change) (s : ℕ) (h : changeOf x m s ≡ Done n) where
-  by-phase : (ph : Phase) → (isAnswered ph ≡ true → m .payer ≡ Nobody → ⊥) → asPhase ph x ≡ true → n .payer ≡ asBefore ph (m .payer)
-  by-phase Unopened p k = differ k
-  by-phase Null p k = differ k
-  by-phase Setup p k = far-named x m n s h k
-  by-phase Answered p k = left-alone x m n s (p refl) h k
-  by-phase Cleared p k = differ k
+by-phase : (m n : Meters) (x : Change) (s : ℕ) → changeOf x m s ≡ Done n → (ph : Phase) → (isAnswered ph ≡ true → m .payer ≡ Nobody → ⊥) →
+    asPhase ph x ≡ true → n .payer ≡ asBefore ph (m .payer)
+by-phase m n x s h Unopened p k = differ k
+by-phase m n x s h Null p k = differ k
+by-phase m n x s h Setup p k = far-named m n x s h k
+by-phase m n x s h Answered p k = left-alone m n x s h (p refl) k
+by-phase m n x s h Cleared p k = differ k
 
 pub far-until-charged : (c : Call) (e : Event) → c .side .role ≡ Destination → isAnswered (stepOf c e .call .stand .phase) ≡ true →
     (isRev Active (stepOf c e .call .stand .rev) ≡ true → isRev Active (c .stand .rev) ≡ true) →

@@ -205,7 +205,7 @@ abbrev isOriginating : Role → Bool
 isOriginating Originating = true
 isOriginating Destination = false
 
-abbrev isDestination : Role → Bool
+abbrev pub isDestination : Role → Bool
 isDestination Originating = false
 isDestination Destination = true
 
