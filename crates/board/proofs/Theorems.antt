@@ -142,7 +142,7 @@ pub slot-pays : (cs : List Call) (xs : List Named) (i : ℕ) (c d : Call) → i 
     getElem? (runRow cs xs) i ≡ some d → d .stand .phase ≡ Answered → d .meters .payer ≡ Nobody → ⊥
 slot-pays = Runs.slot-pays
 
--- .. so no slot of the program's row ever does.
+-- .. so no slot of the program's row ever holds such a call.
 pub program-pays : (xs : List Named) (i : ℕ) (d : Call) → i < 64 → getElem? (runRow emptyRow xs) i ≡ some d →
     d .stand .phase ≡ Answered → d .meters .payer ≡ Nobody → ⊥
 program-pays = Runs.program-pays

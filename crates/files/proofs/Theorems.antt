@@ -103,7 +103,7 @@ all-read = Shown.all-read
 pub no-nine : (s : List ℕ) (k : ℕ) (x : Shown) → getElem? (shownOf s) k ≡ some x → x .answer .number ≡ 9 → ⊥
 no-nine = GivenBack.no-nine
 
--- .. and on no line stands a number but 0 to 7, 15 to 17, 19 and 20 (`onALine`).
+-- .. and no line of a record gives back a number but 0 to 7, 15 to 17, 19 and 20 (`onALine`).
 pub numbers-listed : (s : List ℕ) (k : ℕ) (x : Shown) → getElem? (shownOf s) k ≡ some x → onALine (x .answer .number) ≡ true
 numbers-listed = GivenBack.numbers-listed
 

@@ -137,6 +137,6 @@ oneRest n c (e ∷ es) ending = recordText (n + 1) false 0 (stepOf c e) ++ oneRe
 unfoldable pub oneListing : List Event → Ending → List ℕ
 oneListing es ending = ascii "REV 1\n" ++ oneRest 0 unopenedCall es ending
 
--- The numbers that may stand on a line: 0 to 7, 15 to 17, 19 and 20. 8 is of the whole listing, 9 and 21 are a host's, and 11 to 14 the wire's
+-- The numbers that a line may give back: 0 to 7, 15 to 17, 19 and 20. 8 is of the whole listing, 9 and 21 are a host's, and 11 to 14 the wire's
 abbrev pub onALine : ℕ → Bool
 onALine n = leb n 7 || ((leb 15 n && leb n 17) || (leb 19 n && leb n 20))

@@ -1,7 +1,7 @@
--- What the meters promise to the rows above them: seconds go to the payer's meter and to no other, none is lost and none
--- is made, and no sum passes the limit; the total grows with the time that passes and with nothing else, and does not pass the
--- limit either; where nobody pays none of them grows; a call that begins anew has none of these. Demand 3 rests on these and on nothing
--- else of this crate.
+-- What the meters promise to the rows above them: where somebody pays, seconds go to that payer's meter and to no other, none is lost and
+-- none is made, and no sum passes the limit; the total grows with the time that passes and with nothing else, and does not pass the limit
+-- either. Where nobody pays, meters and total are as they were; and a call that begins anew has no seconds. Demand 3 rests on these and on
+-- nothing else of this crate.
 -- Assumes nothing.
 use mathlib.Core.Path.{_≡_, refl, sym, ap, subst, _∙_}
 use mathlib.Core.Bool.{Bool, true, false, _&&_, not}
@@ -114,7 +114,7 @@ past-to Caller m s h = past m s 0 0 s (omega arith) h
 past-to Called m s h = past m 0 s 0 s (omega arith) h
 past-to Far m s h = past m 0 0 s s (omega arith) h
 
--- It is too much only where the sum or the total would pass the limit ..
+-- A tick is too much only where the sum or the total would pass the limit ..
 pub too-much : (m : Meters) (s : ℕ) → giveOf m s ≡ TooMuch → fits m s ≡ false
 too-much m s h = past-to (m .payer) m s h
 
@@ -128,9 +128,10 @@ gave-fits m n s i h =
 
 -- ---- What moves no time
 
--- a change of payer, its start and its end move no second, and the total stays
-pub paid-by-keeps : (m : Meters) (p : Payer) → (sumOf (paidByOf m p) ≡ sumOf m) × (paidByOf m p .total ≡ m .total)
-paid-by-keeps m p = (refl, refl)
+-- a change of payer, its start and its end move no second: each meter and the total are what they were
+pub paid-by-keeps : (m : Meters) (p : Payer) →
+    (paidByOf m p .caller ≡ m .caller) × (paidByOf m p .called ≡ m .called) × (paidByOf m p .far ≡ m .far) × (paidByOf m p .total ≡ m .total)
+paid-by-keeps m p = (refl, refl, refl, refl)
 
 -- case C: the caller's seconds, all of them, are the payer's, and the sum and the total are what they were
 pub record Moved (m n : Meters) (p : Payer) : Type 0 where
@@ -232,8 +233,8 @@ abbrev pub onlyIf : Bool → ℕ → ℕ
 onlyIf true s = s
 onlyIf false s = 0
 
--- Where somebody pays for the time that passes, the total grows by the seconds; where a call begins anew it is 0; no other change touches
--- it: no change of payer, no move of case C, no Duration.
+-- Where somebody pays for the time that passes (else: `nobody-charged`), the total grows by the seconds; where a call begins anew it is 0;
+-- no other change touches it: no change of payer, no move of case C, no Duration.
 pub total-grows : (x : Change) (m n : Meters) (s : ℕ) → (timed x ≡ true → m .payer ≡ Nobody → ⊥) → changeOf x m s ≡ Done n →
     n .total ≡ onlyIf (not (begins x)) (m .total) + onlyIf (timed x) s
 total-grows Keep m n s i h = let e : m ≡ n = cc in omega (arith, ap (λ (k : Meters). k .total) e)

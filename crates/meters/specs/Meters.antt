@@ -57,7 +57,8 @@ givesTo Far m s = addsOf m 0 0 s s
 abbrev pub giveOf : Meters → ℕ → Metered
 giveOf m s = givesTo (m .payer) m s
 
--- case C: another payer, and the caller's meter is emptied; b seconds go to called, f to far, and none of them passes anew
+-- case C: another payer, and the caller's meter is emptied; b seconds go to called, f to far, and none of them is counted
+-- into the total again
 abbrev pub entireOf : Meters → Payer → ℕ → ℕ → Metered
 entireOf m p b f = addsOf (record { caller = 0; called = m .called; far = m .far; payer = p; total = m .total }) 0 b f 0
 

@@ -131,7 +131,8 @@ impl Meters {
         }
     }
 
-    // Case C: another payer, and the caller's meter is emptied for the called user's or the far exchange's.
+    // Case C: another payer, and the caller's meter is emptied; `called` and `far` are the seconds that those meters take. (The caller's, all
+    // of them, go to one of both: `change`.)
     fn entire(self, payer: Payer, called: u32, far: u32) -> Metered
         ensures { λ out. ⌜ out ≡ entireOf self payer called far ⌝ }
     {

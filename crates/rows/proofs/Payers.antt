@@ -88,7 +88,7 @@ paying-fits Originating Answered p = ap not (is-nobody p)
 paying-fits Destination Answered p = is-there p
 paying-fits r Cleared p = is-nobody p
 
--- which no payer touches
+-- what a phase asks of the meters does not look at the payer
 still-metered : (r : Role) (ph : Phase) (p : Payer) (c : Call) → meteredOf r ph (withPayer p c .meters) ≡ meteredOf r ph (c .meters)
 still-metered r Unopened p c = refl
 still-metered r Null p c = refl

@@ -134,8 +134,8 @@ within-limit = Stays.within-limit
 pub nobody-outside : (c : Call) → validOf c ≡ true → isAnswered (c .stand .phase) ≡ false → c .meters .payer ≡ Nobody
 nobody-outside = Payers.nobody-outside
 
--- .. and a call with another payer is no call exactly if that payer does not fit (`payerFits`: outside ANSWERED nobody pays; in it somebody does, and
--- at a destination called or far).
+-- .. and a call with another payer is no call exactly if that payer does not fit (`payerFits`: outside ANSWERED nobody pays; in it somebody
+-- does, and at a destination called or far): every event is then answered by 9.
 pub nine-by-payer : (c : Call) (p : Payer) (e : Event) → validOf c ≡ true →
     eqb (stepOf (withPayer p c) e .number) 9 ≡ not (payerFits (c .side .role) (c .stand .phase) p)
 nine-by-payer = Payers.nine-by-payer
@@ -193,7 +193,7 @@ pub time-accepted : (c : Call) (s : ℕ) → validOf c ≡ true → c .stand .ph
     sumOf (c .meters) + s ≤ 31536000 → totalOf c + s ≤ 31536000 → stepOf c (Time s) .number ≡ 0
 time-accepted = Progress.time-accepted
 
--- 2 is given for any other such time, and for no other: where the sum of the meters or the total would pass the limit.
+-- Of such times 2 is given exactly for the others: where the sum of the meters or the total would pass the limit.
 pub time-two-exactly : (c : Call) (s : ℕ) → validOf c ≡ true → c .stand .phase ≡ Answered → s ≤ 86400 →
     eqb (stepOf c (Time s) .number) 2 ≡ not (leb (sumOf (c .meters) + s) 31536000 && leb (totalOf c + s) 31536000)
 time-two-exactly = Progress.time-two-exactly
@@ -307,8 +307,8 @@ pub pays-now : (f : ℕ) (own : Number) → opening f own .number ≡ 0 → (es 
     run (opening f own .call) es .meters .payer ≡ payer (reversal (marks f plain (history (opening f own .call) es))) true
 pays-now = Reversal.pays-now
 
--- Somebody pays (02 #108): no history of a call reaches ANSWERED with nobody as payer, at either exchange and whatever is opened on the way. A
--- call that was never opened is one (`unopened-valid`), and so is the one that an opening makes of it (`call-stays`).
+-- Somebody pays (02 #108): no history of a call reaches ANSWERED with nobody as payer, at either exchange and whatever is opened on the
+-- way. `unopenedCall` is a call (`unopened-valid`), and so is what an opening makes of it (`call-stays`).
 pub somebody-pays : (c : Call) (es : List Event) → validOf c ≡ true → run c es .stand .phase ≡ Answered → run c es .meters .payer ≡ Nobody → ⊥
 somebody-pays = Payers.somebody-pays
 
@@ -355,7 +355,8 @@ pub opens-there-in-range : (f : ℕ) (own : Number) → eventOk (Opening 1 f own
 opens-there-in-range = Destination.opens-there-in-range
 
 -- "far until this exchange charges": at a destination the answer names far, and in the answered call the payer stays (`asBefore`), whatever the
--- event, unless it puts reverse charging in effect. So no request, no invoke and no refusal of one moves the payer.
+-- event, as long as the call is ANSWERED after it and it does not put reverse charging in effect. So no request, no invoke and no refusal of
+-- one moves the payer; a clearing ends it (`nobody-outside`).
 pub far-until-charged : (c : Call) (e : Event) → c .side .role ≡ Destination → isAnswered (stepOf c e .call .stand .phase) ≡ true →
     (isRev Active (stepOf c e .call .stand .rev) ≡ true → isRev Active (c .stand .rev) ≡ true) →
     stepOf c e .call .meters .payer ≡ asBefore (c .stand .phase) (c .meters .payer)

@@ -311,7 +311,7 @@ module _ (f : ℕ) (u v w : Number) (a r : Bool) (d : Mark) (m : Message) (s : S
     accepted-B true = turned (switches true z)
     accepted-B false = turned (switches false z)
 
-    -- case C: the meters' own refusals leave the call as it stood
+    -- case C: the meters' own refusal leaves the call as it stood
     abbrev DoesBC : Bool → Bool → Plan → Type 0
     DoesBC c k p =
         Does f (saying (s .acceptsA) (s .acceptsB) true c k (s .givesTransfer)) (at f u v w Answered Idle a r n) d (known nothing x 0) (Received m) p

@@ -601,7 +601,7 @@ invokeHasRow Destination Answered s k x =
     eqb k 4 || (eqb k 5 && ((isRev Idle s && invokeOf 2 x) || tellsRunning s))  -- G5, D52, D56; D26 to D29; D44, D54, D60
 invokeHasRow r Cleared s k x = false
 
--- ---- A clearing clears, and who is charged at a destination: proofs/Clearing.antt
+-- ---- A clearing clears, and who is charged at a destination: proofs/Clearing.antt, proofs/Payers.antt
 
 -- SETUP and ANSWERED: there is a call to clear
 abbrev pub inCall : Phase → Bool

@@ -1,6 +1,6 @@
 -- 01, "Calls to try": the histories marked P, as theorems about the definition; the second press of 02 #101; the totals of 02 #104; rooms
--- abroad, 02 #103; why there was no row and the first bad field, 02 #106; a freed call taken again, 02 #107; and calls that only a host
--- hands in. Each computes.
+-- abroad, 02 #103; why there was no row and the first bad field, 02 #106; a freed call taken again, 02 #107; who pays, 02 #108; and
+-- calls that only a host hands in. Each computes.
 -- Assumes nothing.
 use Prim.Native.Nat.{ℕ, _+_}
 use mathlib.Core.Bool.{false}
@@ -251,36 +251,6 @@ full : run (served WaitCalled 31536000 31536000) (result 0 ∷ Time 0 ∷ Time 1
     ∷ []
 full = refl
 
--- 02 #108: ANSWERED at the originating exchange, by payer. With nobody every event is 9, an opening and one with a bad field too; and so it is
--- where no second is left
-abbrev paidBy : Payer → Event → ℕ
-paidBy p e = stepOf (withPayer p (talked 40)) e .number
-
-somebody-talks : (paidBy Payer.Caller (Time 1) ≡ 0) × (paidBy Payer.Called (Time 1) ≡ 0) × (paidBy Payer.Far (Time 1) ≡ 0)
-somebody-talks = (refl, refl, refl)
-
-nobody-talks : (paidBy Payer.Nobody (Time 1) ≡ 9) × (paidBy Payer.Nobody (Opening 0 8 room) ≡ 9) × (paidBy Payer.Nobody (Time 86401) ≡ 9)
-    × (paidBy Payer.Nobody (FromAccess 4 0) ≡ 9) × (paidBy Payer.Nobody Expiry ≡ 9) × (stepOf (withPayer Payer.Nobody (talked 31536000)) (Time 1) .number ≡ 9)
-nobody-talks = (refl, refl, refl, refl, refl, refl)
-
--- at a destination called or far may pay, and nobody outside ANSWERED, in either role
-abbrev expiry-by : Payer → Call → ℕ
-expiry-by p c = stepOf (withPayer p c) Expiry .number
-
-there-pays : (expiry-by Payer.Called (served Idle 40 40) ≡ 16) × (expiry-by Payer.Far (served Idle 40 40) ≡ 16)
-    × (expiry-by Payer.Caller (served Idle 40 40) ≡ 9) × (expiry-by Payer.Nobody (served Idle 40 40) ≡ 9)
-there-pays = (refl, refl, refl, refl)
-
-abbrev rung : Call
-rung = after unopenedCall (Opening 0 8 room ∷ Ask 0 room ∷ [])
-
-abbrev cleared : Call
-cleared = after (talked 40) (FromAccess 4 0 ∷ [])
-
-outside-nobody : (expiry-by Payer.Nobody rung ≡ 16) × (expiry-by Payer.Caller rung ≡ 9) × (expiry-by Payer.Far rung ≡ 9)
-    × (expiry-by Payer.Nobody cleared ≡ 15) × (expiry-by Payer.Caller cleared ≡ 9) × (expiry-by Payer.Called cleared ≡ 9)
-outside-nobody = (refl, refl, refl, refl, refl, refl)
-
 -- what an expiry is answered in IDLE, where the call holds this total: 16, it has no row there; or 9
 abbrev expiry-with : ℕ → Call → ℕ
 expiry-with t c = stepOf (withTotal t c) Expiry .number
@@ -294,6 +264,42 @@ differs = (refl, refl, refl, refl)
 own-limit : (expiry-with 7 (served Idle 40 40) ≡ 16) × (expiry-with 31536000 (served Idle 40 40) ≡ 16)
     × (expiry-with 31536001 (served Idle 40 40) ≡ 9) × (expiry-with 40 (served Idle 31536001 40) ≡ 9)
 own-limit = (refl, refl, refl, refl)
+
+-- ---- Who pays, 02 #108
+
+-- ANSWERED at the originating exchange, by payer. With nobody every event is 9, an opening and one with a bad field too; and so it is where
+-- no second is left
+abbrev paidBy : Payer → Event → ℕ
+paidBy p e = stepOf (withPayer p (talked 40)) e .number
+
+somebody-talks : (paidBy Payer.Caller (Time 1) ≡ 0) × (paidBy Payer.Called (Time 1) ≡ 0) × (paidBy Payer.Far (Time 1) ≡ 0)
+somebody-talks = (refl, refl, refl)
+
+nobody-talks : (paidBy Payer.Nobody (Time 1) ≡ 9) × (paidBy Payer.Nobody (Opening 0 8 room) ≡ 9) × (paidBy Payer.Nobody (Time 86401) ≡ 9)
+    × (paidBy Payer.Nobody (FromAccess 4 0) ≡ 9) × (paidBy Payer.Nobody Expiry ≡ 9) × (stepOf (withPayer Payer.Nobody (talked 31536000)) (Time 1) .number ≡ 9)
+nobody-talks = (refl, refl, refl, refl, refl, refl)
+
+-- at a destination called or far may pay; and outside ANSWERED nobody
+abbrev expiry-by : Payer → Call → ℕ
+expiry-by p c = stepOf (withPayer p c) Expiry .number
+
+there-pays : (expiry-by Payer.Called (served Idle 40 40) ≡ 16) × (expiry-by Payer.Far (served Idle 40 40) ≡ 16)
+    × (expiry-by Payer.Caller (served Idle 40 40) ≡ 9) × (expiry-by Payer.Nobody (served Idle 40 40) ≡ 9)
+there-pays = (refl, refl, refl, refl)
+
+abbrev rung : Call
+rung = after unopenedCall (Opening 0 8 room ∷ Ask 0 room ∷ [])
+
+abbrev rungThere : Call
+rungThere = after unopenedCall (Opening 1 8 room ∷ Received (plain iam 0 (Absent 0)) ∷ [])
+
+abbrev cleared : Call
+cleared = after (talked 40) (FromAccess 4 0 ∷ [])
+
+outside-nobody : (expiry-by Payer.Nobody rung ≡ 16) × (expiry-by Payer.Caller rung ≡ 9) × (expiry-by Payer.Far rung ≡ 9)
+    × (expiry-by Payer.Nobody rungThere ≡ 16) × (expiry-by Payer.Called rungThere ≡ 9) × (expiry-by Payer.Far rungThere ≡ 9)
+    × (expiry-by Payer.Nobody cleared ≡ 15) × (expiry-by Payer.Caller cleared ≡ 9) × (expiry-by Payer.Called cleared ≡ 9)
+outside-nobody = (refl, refl, refl, refl, refl, refl, refl, refl, refl)
 
 -- ---- National and international, 02 #103
 

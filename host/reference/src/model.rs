@@ -257,6 +257,8 @@ impl Call {
             Some("nobody pays in ANSWERED")
         } else if self.phase != Phase::Answered && self.payer != Payer::Nobody {
             Some("somebody pays outside ANSWERED")
+        } else if self.role == Role::Destination && self.payer == Payer::Caller {
+            Some("the caller pays at a destination")
         } else if total != answered {
             Some("the total is not the answered seconds")
         } else if self.role == Role::Originating && total != self.sum() {
@@ -821,7 +823,7 @@ mod tests {
         assert_eq!(rows.len(), 5 + 40 + 60, "G, O and D");
     }
 
-    /// Each payer that a phase has not is told.
+    /// Each payer that a phase or a role has not is told.
     #[test]
     fn wrong_payers() {
         let answered = after(opened(Role::Originating, 0), &[Event::Ask(Ask::Basic), plain(Name::Anm)]);
@@ -835,6 +837,8 @@ mod tests {
             assert_eq!(wrong(call, Payer::Far), None);
             assert_eq!(wrong(call, Payer::Nobody), Some("nobody pays in ANSWERED"));
         }
+        assert_eq!(wrong(answered, Payer::Caller), None);
+        assert_eq!(wrong(asked_after(0), Payer::Caller), Some("the caller pays at a destination"));
     }
 
     /// 02 #107: an opening begins anew where a call has cleared, in either role and with nothing of it left, and is 20 where one

@@ -65,7 +65,7 @@ pub fn phase_name(phase: Phase) -> &'static str {
     PHASES.iter().find(|(known, _)| *known == phase).map_or("NONE", |(_, word)| word)
 }
 
-/// A call in a place. In ANSWERED somebody pays, or it were no call state (02 #108); the far exchange can in either role.
+/// A call in a place. In ANSWERED somebody pays, else it would be no call state (02 #108); the far exchange may in either role.
 fn call(role: Role, phase: Phase, rev: Rev, flags: u8) -> Call {
     let own = Digits { count: 1, ..Digits::ABSENT };
     let payer = if phase == Phase::Answered { Payer::Far } else { Payer::Nobody };
