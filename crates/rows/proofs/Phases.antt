@@ -9,7 +9,7 @@ use borrow.Author.Tests.{leb-true}
 use Rattle.rows.specs.Bill.{isAnswered, isRev, resultTo}
 use Rattle.rows.specs.Find.{when, originatingSetupOf, destinationSetupOf, rowForOf}
 use Rattle.rows.specs.Perform.{standOf}
-use Rattle.rows.specs.Promises.{placeIn, isWord, bare, answerWith, answersAt, Answering, runs}
+use Rattle.rows.specs.Promises.{placeIn, isWord, bare, answerWith, answersAt, Answering, runs, isToldHere, isMessage, awaitedThere}
 use Rattle.rows.specs.declared.Component.{Component}
 use Rattle.rows.specs.declared.Component.the-variants.{Absent, Invoke, Result, Error, Reject, Unknown}
 use Rattle.rows.specs.declared.Cue.{Cue}
@@ -38,7 +38,7 @@ use Rattle.rows.specs.declared.Row.{Row}
 use Rattle.rows.specs.declared.Stand.{Stand}
 use Rattle.rows.specs.declared.Terms.{Terms}
 use Rattle.rows.proofs.Found.{implies, so, Test, holds, stepped}
-use Rattle.rows.proofs.Truth.{both, differ, left, right}
+use Rattle.rows.proofs.Truth.{both, differ, either, left, or-true, right}
 
 -- ---- Kinds of events, and the tests of the promises
 
@@ -334,3 +334,65 @@ active-stays c e h =
     stepped (λ (o : Outcome). isAnswered (o .call .stand .phase) ≡ true → isRev Active (o .call .stand .rev) ≡ true) c e
     (λ v l. right (isAnswered (c .stand .phase)) _ h) (λ n k v p q l. right (isAnswered (c .stand .phase)) _ h)
     (λ n d l. so _ _ (so _ _ (so _ _ (holds runsOn (λ e t a b. refl) c e) (d .row)) h) l)
+
+-- ---- ACTIVE is entered at a destination by what it waits for
+
+abbrev isFac : Kind → Bool
+isFac Opens = false
+isFac Asks = false
+isFac Iam = false
+isFac Answer = false
+isFac Rel = false
+isFac Fac = true
+isFac Tells = false
+isFac Expires = false
+isFac Passes = false
+
+-- the same by the kind of the event
+abbrev endsWait : Role → Phase → RevState → Kind → Bool
+endsWait Originating p s k = true
+endsWait Destination Unopened s k = false
+endsWait Destination Null s k = false
+endsWait Destination Setup s k = (isRev WaitSetupConf s || isRev WaitAnswer s) && isTells k
+endsWait Destination Answered s k = (isRev WaitActiveConf s && isTells k) || (isRev WaitCalled s && isFac k)
+endsWait Destination Cleared s k = false
+
+abbrev activating : Test
+activating r now k p =
+    implies (eqb (p .number) 0)
+    (implies (not (isRev Active (now .rev))) (implies (isRev Active (standOf (p .next) now .rev)) (endsWait r (now .phase) (now .rev) k)))
+
+told-here : (e : Event) → isTells (readOf e .kind) ≡ isToldHere e
+told-here (Opening r f n) = refl
+told-here (Ask q n) = refl
+told-here (Received m) = no-word (eqb (m .kind) 1) (eqb (m .kind) 2 || eqb (m .kind) 3) (eqb (m .kind) 4)
+told-here (FromAccess a n) = refl
+told-here Expiry = refl
+told-here (Time s) = refl
+
+by-message : (e : Event) → isFac (readOf e .kind) ≡ true → isMessage e ≡ true
+by-message (Opening r f n) h = h
+by-message (Ask q n) h = h
+by-message (Received m) h = refl
+by-message (FromAccess a n) h = h
+by-message Expiry h = h
+by-message (Time s) h = h
+
+waited : (p : Phase) (s : RevState) (e : Event) → endsWait Destination p s (readOf e .kind) ≡ true → awaitedThere p s e ≡ true
+waited Unopened s e h = h
+waited Null s e h = h
+waited Setup s e h = ap (λ (b : Bool). (isRev WaitSetupConf s || isRev WaitAnswer s) && b) (sym (told-here e)) ∙ h
+waited Answered s e h =
+    either (isRev WaitActiveConf s && isTells (readOf e .kind)) (isRev WaitCalled s && isFac (readOf e .kind)) h
+    (λ i. ap (λ (b : Bool). b || (isRev WaitCalled s && isMessage e)) (ap (λ (b : Bool). isRev WaitActiveConf s && b) (sym (told-here e)) ∙ i))
+    (λ i. or-true (isRev WaitActiveConf s && isToldHere e) _ (both (left (isRev WaitCalled s) _ i) (by-message e (right (isRev WaitCalled s) _ i))))
+waited Cleared s e h = h
+
+pub active-entered-there : (c : Call) (e : Event) → c .side .role ≡ Destination → isRev Active (c .stand .rev) ≡ false →
+    isRev Active (stepOf c e .call .stand .rev) ≡ true → awaitedThere (c .stand .phase) (c .stand .rev) e ≡ true
+active-entered-there c e r n =
+    stepped (λ (o : Outcome). isRev Active (o .call .stand .rev) ≡ true → awaitedThere (c .stand .phase) (c .stand .rev) e ≡ true) c e
+    (λ v a. differ (sym n ∙ a)) (λ k x v p q a. differ (sym n ∙ a))
+    (λ m d a. waited (c .stand .phase) (c .stand .rev) e
+    (ap (λ (x : Role). endsWait x (c .stand .phase) (c .stand .rev) (readOf e .kind)) (sym r)
+    ∙ so _ _ (so _ _ (so _ _ (holds activating (λ e′ t x y. refl) c e) (d .row)) (ap not n)) a))

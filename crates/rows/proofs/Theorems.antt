@@ -18,7 +18,7 @@ use Rattle.rows.specs.Bill.{bitAt, isAnswered, isRev, answered, Case, pl
 use Rattle.rows.specs.Bill.{Step, pick, opens, noneOpens, line}
 use Rattle.rows.specs.History.{run, written, history, opening}
 use Rattle.rows.specs.Perform.{refusedAt}
-use Rattle.rows.specs.Promises.{NothingDone, AsFresh, noneIs, withPayer, payerFits, Answering, runs, inCall, Clears, asBefore, chargedBy, placeIn}
+use Rattle.rows.specs.Promises.{NothingDone, AsFresh, noneIs, withPayer, payerFits, Answering, runs, inCall, Clears, asBefore, awaitedThere, chargedBy, placeIn}
 use Rattle.rows.specs.Promises.{isFacility, tellsRunning, asksReversal, isInvoke, errorIs, toldRunning, sentRunning}
 use Rattle.rows.specs.Promises.{saysNoRow, requestHasRow, invokeHasRow, given}
 use Rattle.rows.specs.Promises.{openingThere, secondsThere, noDuration, lastedIn, withTotal, totalFits}
@@ -361,6 +361,12 @@ pub far-until-charged : (c : Call) (e : Event) → c .side .role ≡ Destination
     (isRev Active (stepOf c e .call .stand .rev) ≡ true → isRev Active (c .stand .rev) ≡ true) →
     stepOf c e .call .meters .payer ≡ asBefore (c .stand .phase) (c .meters .payer)
 far-until-charged = Payers.far-until-charged
+
+-- Reverse charging is put in effect there by what the exchange waits for, and by nothing else (`awaitedThere`: which wait, and whether the own
+-- user or the other exchange has the word): no expiry, no time and no request does, and no word where none is waited for.
+pub active-entered-there : (c : Call) (e : Event) → c .side .role ≡ Destination → isRev Active (c .stand .rev) ≡ false →
+    isRev Active (stepOf c e .call .stand .rev) ≡ true → awaitedThere (c .stand .phase) (c .stand .rev) e ≡ true
+active-entered-there = Phases.active-entered-there
 
 -- Where the own access's word puts reverse charging in effect, the called user is charged here if transfer was agreed, and else far, or
 -- whoever was charged in the answered call: never both exchanges.

@@ -629,6 +629,32 @@ abbrev pub chargedBy : Bool → Phase → Payer → Payer
 chargedBy true ph q = Called
 chargedBy false ph q = asBefore ph q
 
+-- a word of the own access; a message of the other exchange
+abbrev pub isToldHere : Event → Bool
+isToldHere (Opening r f n) = false
+isToldHere (Ask q n) = false
+isToldHere (Received m) = false
+isToldHere (FromAccess a n) = true
+isToldHere Expiry = false
+isToldHere (Time s) = false
+
+abbrev pub isMessage : Event → Bool
+isMessage (Opening r f n) = false
+isMessage (Ask q n) = false
+isMessage (Received m) = true
+isMessage (FromAccess a n) = false
+isMessage Expiry = false
+isMessage (Time s) = false
+
+-- What a destination waits for, by phase and REV state: its own user's word for cases A and D in SETUP and for case B asked for by the caller
+-- in ANSWERED, the other exchange's message for what its own user asked for. Elsewhere nothing puts reverse charging in effect
+abbrev pub awaitedThere : Phase → RevState → Event → Bool
+awaitedThere Unopened s e = false
+awaitedThere Null s e = false
+awaitedThere Setup s e = (isRev WaitSetupConf s || isRev WaitAnswer s) && isToldHere e
+awaitedThere Answered s e = (isRev WaitActiveConf s && isToldHere e) || (isRev WaitCalled s && isMessage e)
+awaitedThere Cleared s e = false
+
 -- ---- Which numbers a call gives back: proofs/Refusals.antt
 
 -- 01, "Numbers given back", 02 #106 and #107: 0; 1, 15, 16, 17 and 20, why no row was looked for or found; 3, a bad field; 4, a part that is
