@@ -39,7 +39,7 @@ use Rattle.rows.specs.declared.RevState.the-variants.{WaitActiveConf, Wa
 use Rattle.rows.specs.declared.Role.{Role}
 use Rattle.rows.specs.declared.Role.the-variants.{Originating, Destination}
 use Rattle.rows.proofs.Answers.{planFor, row-decides, opened-then, has-plan, settled}
-use Rattle.rows.proofs.Found.{implies, so, Test, holds}
+use Rattle.rows.proofs.Found.{implies, so, Test, holds, isKind}
 use Rattle.rows.proofs.Placed.{placed}
 use Rattle.rows.proofs.Progress.{valid-place, standing, with-these, a-facility, a-result, effect-opened, reversal-takes-effect}
 use Rattle.rows.proofs.Truth.{differ, left, right}
@@ -72,15 +72,7 @@ access-clears c n v k i =
     (c .side .role) (c .stand .phase) (c .stand .rev) (valid-place c v) i)
 
 abbrev isRel : Kind → Bool
-isRel Kind.Opens = false
-isRel Kind.Asks = false
-isRel Kind.Iam = false
-isRel Kind.Answer = false
-isRel Kind.Rel = true
-isRel Kind.Fac = false
-isRel Kind.Tells = false
-isRel Kind.Expires = false
-isRel Kind.Passes = false
+isRel k = isKind Kind.Rel k
 
 abbrev endsAll : Test
 endsAll r now k p =

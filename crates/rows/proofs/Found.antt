@@ -427,6 +427,21 @@ rev h e WaitCalled = right (h WaitActiveConf) _ (right (h WaitSetupConf) _ (righ
 
 -- ---- THE LAW
 
+-- kinds by their number, so that one is told from the others
+abbrev kindNumber : Kind → ℕ
+kindNumber Opens = 0
+kindNumber Asks = 1
+kindNumber Iam = 2
+kindNumber Answer = 3
+kindNumber Rel = 4
+kindNumber Fac = 5
+kindNumber Tells = 6
+kindNumber Expires = 7
+kindNumber Passes = 8
+
+abbrev pub isKind : Kind → Kind → Bool
+isKind j k = eqb (kindNumber j) (kindNumber k)
+
 -- a test of a plan: at a role and a stand, for a kind of event
 abbrev pub Test : Type 0
 Test = Role → Stand → Kind → Plan → Bool

@@ -22,7 +22,7 @@ use Rattle.rows.specs.declared.Call.{Call}
 use Rattle.rows.specs.declared.Event.{Event}
 use Rattle.rows.specs.declared.Event.the-variants.{Opening, Ask, Received, FromAccess, Expiry, Time}
 use Rattle.rows.specs.declared.Kind.{Kind}
-use Rattle.rows.specs.declared.Kind.the-variants.{Opens, Asks, Iam, Answer, Rel, Fac, Tells, Expires, Passes}
+use Rattle.rows.specs.declared.Kind.the-variants.{Asks}
 use Rattle.rows.specs.declared.Number.{Number}
 use Rattle.rows.specs.declared.Outcome.{Outcome}
 use Rattle.rows.specs.declared.Phase.{Phase}
@@ -33,7 +33,7 @@ use Rattle.rows.specs.declared.Register.{Register}
 use Rattle.rows.specs.declared.Register.the-variants.{AsHeld, FromOpening, CalledNumber, CallingNumber}
 use Rattle.rows.specs.declared.Side.{Side}
 use Rattle.rows.proofs.Answers.{planFor, refused-or-performed}
-use Rattle.rows.proofs.Found.{Test, implies, so, holds, stepped}
+use Rattle.rows.proofs.Found.{Test, implies, so, holds, stepped, isKind}
 use Rattle.rows.proofs.Phases.{isOpens, opens}
 use Rattle.rows.proofs.Truth.{differ, right, or-none}
 
@@ -194,15 +194,7 @@ isNull Answered = false
 isNull Cleared = false
 
 abbrev isAsks : Kind → Bool
-isAsks Opens = false
-isAsks Asks = true
-isAsks Iam = false
-isAsks Answer = false
-isAsks Rel = false
-isAsks Fac = false
-isAsks Tells = false
-isAsks Expires = false
-isAsks Passes = false
+isAsks k = isKind Asks k
 
 abbrev registersCalled : Register → Bool
 registersCalled AsHeld = false

@@ -37,43 +37,19 @@ use Rattle.rows.specs.declared.Role.the-variants.{Originating, Destinati
 use Rattle.rows.specs.declared.Row.{Row}
 use Rattle.rows.specs.declared.Stand.{Stand}
 use Rattle.rows.specs.declared.Terms.{Terms}
-use Rattle.rows.proofs.Found.{implies, so, Test, holds, stepped}
+use Rattle.rows.proofs.Found.{implies, so, Test, holds, stepped, isKind}
 use Rattle.rows.proofs.Truth.{both, differ, either, left, or-true, right}
 
 -- ---- Kinds of events, and the tests of the promises
 
 abbrev pub isOpens : Kind → Bool
-isOpens Opens = true
-isOpens Asks = false
-isOpens Iam = false
-isOpens Answer = false
-isOpens Rel = false
-isOpens Fac = false
-isOpens Tells = false
-isOpens Expires = false
-isOpens Passes = false
+isOpens k = isKind Opens k
 
 abbrev isAnswer : Kind → Bool
-isAnswer Opens = false
-isAnswer Asks = false
-isAnswer Iam = false
-isAnswer Answer = true
-isAnswer Rel = false
-isAnswer Fac = false
-isAnswer Tells = false
-isAnswer Expires = false
-isAnswer Passes = false
+isAnswer k = isKind Answer k
 
 abbrev isTells : Kind → Bool
-isTells Opens = false
-isTells Asks = false
-isTells Iam = false
-isTells Answer = false
-isTells Rel = false
-isTells Fac = false
-isTells Tells = true
-isTells Expires = false
-isTells Passes = false
+isTells k = isKind Tells k
 
 -- no message is an opening or a word of the own access, and an ANM or CON alone is an answer
 no-message : (i a r : Bool) → isOpens (kindBy i a r) ≡ false
@@ -338,15 +314,7 @@ active-stays c e h =
 -- ---- ACTIVE is entered at a destination by what it waits for
 
 abbrev isFac : Kind → Bool
-isFac Opens = false
-isFac Asks = false
-isFac Iam = false
-isFac Answer = false
-isFac Rel = false
-isFac Fac = true
-isFac Tells = false
-isFac Expires = false
-isFac Passes = false
+isFac k = isKind Fac k
 
 -- the same by the kind of the event
 abbrev endsWait : Role → Phase → RevState → Kind → Bool

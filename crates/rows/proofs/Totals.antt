@@ -23,7 +23,7 @@ use Rattle.rows.specs.declared.Call.{Call}
 use Rattle.rows.specs.declared.Event.{Event}
 use Rattle.rows.specs.declared.Event.the-variants.{Opening, Ask, Received, FromAccess, Expiry, Time}
 use Rattle.rows.specs.declared.Kind.{Kind}
-use Rattle.rows.specs.declared.Kind.the-variants.{Opens, Asks, Iam, Answer, Rel, Fac, Tells, Expires, Passes}
+use Rattle.rows.specs.declared.Kind.the-variants.{Passes}
 use Rattle.rows.specs.declared.Number.{Number}
 use Rattle.rows.specs.declared.Outcome.{Outcome}
 use Rattle.rows.specs.declared.Phase.{Phase}
@@ -31,7 +31,7 @@ use Rattle.rows.specs.declared.Phase.the-variants.{Unopened, Null, Setup
 use Rattle.rows.specs.declared.Role.{Role}
 use Rattle.rows.specs.declared.Role.the-variants.{Originating, Destination}
 use Rattle.rows.proofs.Answers.{planFor}
-use Rattle.rows.proofs.Found.{implies, so, Test, holds, stepped}
+use Rattle.rows.proofs.Found.{implies, so, Test, holds, stepped, isKind}
 use Rattle.rows.proofs.Payers.{answered-paid}
 use Rattle.rows.proofs.Phases
 use Rattle.rows.proofs.Phases.{isOpens}
@@ -43,15 +43,7 @@ use Rattle.rows.proofs.Whole.{by-kind, first-unopening, rest-unopening}
 -- ---- Every row: time is counted where time passes in ANSWERED, and nowhere else; an opening begins anew, and nothing else does
 
 abbrev isPassing : Kind → Bool
-isPassing Opens = false
-isPassing Asks = false
-isPassing Iam = false
-isPassing Answer = false
-isPassing Rel = false
-isPassing Fac = false
-isPassing Tells = false
-isPassing Expires = false
-isPassing Passes = true
+isPassing k = isKind Passes k
 
 abbrev counting : Test
 counting r now k p =
