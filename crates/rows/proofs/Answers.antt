@@ -10,6 +10,7 @@ use Rattle.meters.specs.declared.Metered.the-variants.{Done, TooMuch}
 use Rattle.meters.specs.declared.Meters.{Meters}
 use Rattle.rows.specs.Find.{rowForOf}
 use Rattle.rows.specs.Perform.{refusedAt, refusedOf, followsOf, settledOf, performOf}
+use Rattle.rows.specs.Promises.{placeIn}
 use Rattle.rows.specs.Read.{readOf, cueOf, termsOf}
 use Rattle.rows.specs.Rows.{planOf}
 use Rattle.rows.specs.Step.{ifRow, takesOf, ifInRange, isOpening, untimelyOf, inTime, ifTimely, ifCall, stepOf}
@@ -150,11 +151,7 @@ module _ (P : Outcome → Type 0) (c : Call) (e : Event) (nine : P (refusedOf 9 
 
 -- 01's NONE
 abbrev pub isUnopened : Phase → Bool
-isUnopened Unopened = true
-isUnopened Null = false
-isUnopened Setup = false
-isUnopened Answered = false
-isUnopened Cleared = false
+isUnopened p = eqb (placeIn p) 0
 
 -- what is no opening is in its time once the call was opened
 later-timely : (p : Phase) → isUnopened p ≡ false → untimelyOf p false ≡ 0

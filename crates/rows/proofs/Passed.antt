@@ -13,7 +13,7 @@ use Rattle.meters.specs.Meters.{changeOf}
 use Rattle.meters.specs.declared.Metered.{Metered}
 use Rattle.meters.specs.declared.Metered.the-variants.{Done, TooMuch}
 use Rattle.rows.specs.Perform.{refusedAt, ifThere, orHeld, openedOf, standOf, sideOf, settledOf, performIf, appliesOf}
-use Rattle.rows.specs.Promises.{OneOf, this, later, ownIn, callingIn, calledIn, namedBy, PassedOn, HeldOr, Keeps, OnlyOwn, HoldsOrClears}
+use Rattle.rows.specs.Promises.{OneOf, this, later, ownIn, callingIn, calledIn, namedBy, PassedOn, HeldOr, Keeps, OnlyOwn, HoldsOrClears, placeIn}
 use Rattle.rows.specs.Read.{bit, readOf}
 use Rattle.rows.specs.Step.{isOpening, stepOf}
 use Rattle.rows.specs.Telephone.{absent}
@@ -187,11 +187,7 @@ keeps c e h =
 -- ---- an opening and a caller's request register
 
 abbrev isNull : Phase → Bool
-isNull Unopened = false
-isNull Null = true
-isNull Setup = false
-isNull Answered = false
-isNull Cleared = false
+isNull p = eqb (placeIn p) 1
 
 abbrev isAsks : Kind → Bool
 isAsks k = isKind Asks k

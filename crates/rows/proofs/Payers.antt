@@ -8,11 +8,10 @@ use mathlib.Core.List.{List}
 use Prim.Native.Nat.{ℕ}
 use lib.Dec.{eqb}
 use Rattle.meters.proofs.Laws.{gave, is, is-that}
-use Rattle.meters.specs.Meters.{changeOf}
+use Rattle.meters.specs.Meters.{paidByOf, changeOf}
 use Rattle.meters.specs.declared.Change.{Change}
 use Rattle.meters.specs.declared.Change.the-variants.{Keep, FarPays, TimePasses}
-use Rattle.meters.specs.declared.Metered.{Metered}
-use Rattle.meters.specs.declared.Metered.the-variants.{Done, TooMuch}
+use Rattle.meters.specs.declared.Metered.the-variants.{Done}
 use Rattle.meters.specs.declared.Meters.{Meters}
 use Rattle.meters.specs.declared.Payer.{Payer}
 use Rattle.meters.specs.declared.Payer.the-variants.{Nobody, Caller, Called, Far}
@@ -112,10 +111,6 @@ nine-by-payer c p e v = nine-exactly (withPayer p c) e ∙ ap not (valid-with c 
 
 -- ---- At a destination: far until this exchange charges
 
-abbrev payerIn : Metered → Payer
-payerIn (Done n) = n .payer
-payerIn TooMuch = Nobody
-
 -- a change that leaves the payer
 abbrev leaves : Change → Bool
 leaves x = is Keep x || is TimePasses x
@@ -126,10 +121,11 @@ module _ (m n : Meters) (x : Change) (s : ℕ) (h : changeOf x m s ≡ Done n) w
 
   left-alone : (m .payer ≡ Nobody → ⊥) → leaves x ≡ true → n .payer ≡ m .payer
   left-alone p k =
-      either (is Keep x) (is TimePasses x) k (λ i. sym (ap (λ (y : Metered). payerIn y) (as-that Keep i))) (λ i. gave m n s p (as-that TimePasses i) .payer)
+      either (is Keep x) (is TimePasses x) k (λ i. let q = as-that Keep i in let e : m ≡ n = cc in sym (ap (λ (y : Meters). y .payer) e))
+      (λ i. gave m n s p (as-that TimePasses i) .payer)
 
   far-named : is FarPays x ≡ true → n .payer ≡ Far
-  far-named i = sym (ap (λ (y : Metered). payerIn y) (as-that FarPays i))
+  far-named i = let q = as-that FarPays i in let e : paidByOf m Far ≡ n = cc in sym (ap (λ (y : Meters). y .payer) e)
 
 -- in ANSWERED the payer stays, from SETUP it is far, and from nowhere else does a row lead to ANSWERED
 abbrev asPhase : Phase → Change → Bool

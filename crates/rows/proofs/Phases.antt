@@ -175,11 +175,7 @@ awaited Destination WaitActiveConf k = false
 awaited Destination WaitCalled k = false
 
 abbrev isSetup : Phase → Bool
-isSetup Unopened = false
-isSetup Null = false
-isSetup Setup = true
-isSetup Answered = false
-isSetup Cleared = false
+isSetup p = eqb (placeIn p) 2
 
 abbrev entering : Test
 entering r now k p =
