@@ -10,6 +10,7 @@ use lib.ListN.{length, getD, set, replicate}
 use Rattle.text.specs.Text.{Put, ascii}
 use Rattle.text.proofs.Cases.{yes-lt, no-lt, both-lt}
 use Rattle.text.proofs.Laws.{put-none, put-after, put-as}
+use Rattle.rows.proofs.Truth.{or-assoc}
 use Rattle.rows.specs.Perform.{refusedOf}
 use Rattle.rows.specs.Step.{stepOf, unopenedCall}
 use Rattle.board.specs.Numbers.{noSuchSlot}
@@ -32,10 +33,6 @@ use Rattle.files.proofs.Records.{Within, read-within, read-as}
 or-false : (b : Bool) → (b || false) ≡ b
 or-false true = refl
 or-false false = refl
-
-or-assoc : (a b c : Bool) → ((a || b) || c) ≡ (a || (b || c))
-or-assoc true b c = refl
-or-assoc false b c = refl
 
 -- ---- where a loop stands
 

@@ -36,6 +36,11 @@ pub or-none : (a : Bool) → (a || false) ≡ true → a ≡ true
 or-none true h = refl
 or-none false h = h
 
+-- of three it is the same which two are joined first
+pub or-assoc : (a b c : Bool) → ((a || b) || c) ≡ (a || (b || c))
+or-assoc true b c = refl
+or-assoc false b c = refl
+
 -- neither of two
 pub neither-left : (a b : Bool) → (a || b) ≡ false → a ≡ false
 neither-left true b h = h

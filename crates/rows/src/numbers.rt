@@ -1,5 +1,5 @@
-// The numbers of the papers, each behind one name. specs/Numbers.antt has the same numbers; here the module's errors are a mask, and
-// the parts stand added up as they are sent.
+// The numbers of the papers, each behind one name. specs/Numbers.antt has the same numbers; here the parts stand added up as they are
+// sent.
 
 // 01, numbers given back: a row applied, or why not.
 pub const APPLIED: u8 = 0;
@@ -42,8 +42,12 @@ pub const CALLING_REQ_ACTIVE: u8 = 2;
 
 pub const CALLED_REQUEST: u8 = 3;
 
-// 001, 3.4.2: the error values that the exchanges themselves give.
+// 001, 3.4.2: error values, in the module's order.
 pub const USER_NOT_SUBSCRIBED: u8 = 4;
+
+pub const REJECTED_BY_NETWORK: u8 = 5;
+
+pub const REJECTED_BY_USER: u8 = 6;
 
 pub const NOT_AVAILABLE: u8 = 7;
 
@@ -51,12 +55,11 @@ pub const INTERACTION_NOT_ALLOWED: u8 = 8;
 
 pub const BASIC_SERVICE_NOT_PROVIDED: u8 = 9;
 
+pub const RESOURCE_UNAVAILABLE: u8 = 10;
+
 pub const USER_IGNORED: u8 = 11;
 
 pub const ALREADY_RUNNING: u8 = 12;
-
-// 001, 3.4.2: the module's error values, 4 to 12, a bit for each.
-pub const REV_ERRORS: u32 = 0b1_1111_1111_0000;
 
 // Q.850: cause values.
 pub const NORMAL_CLEARING: u8 = 16;

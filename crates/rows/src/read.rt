@@ -22,16 +22,24 @@ use crate::Stand;
 use crate::Terms;
 use crate::Told;
 use crate::numbers::ACCEPTED;
+use crate::numbers::ALREADY_RUNNING;
 use crate::numbers::ANM;
 use crate::numbers::AS_TRANSFER;
+use crate::numbers::BASIC_SERVICE_NOT_PROVIDED;
 use crate::numbers::CALLED_REQUEST;
 use crate::numbers::CALLING_REQ_ACTIVE;
 use crate::numbers::CALLING_REQ_SETUP;
 use crate::numbers::CON;
 use crate::numbers::IAM;
+use crate::numbers::INTERACTION_NOT_ALLOWED;
 use crate::numbers::NORMAL_CLEARING;
+use crate::numbers::NOT_AVAILABLE;
+use crate::numbers::REJECTED_BY_NETWORK;
+use crate::numbers::REJECTED_BY_USER;
 use crate::numbers::REL;
-use crate::numbers::REV_ERRORS;
+use crate::numbers::RESOURCE_UNAVAILABLE;
+use crate::numbers::USER_IGNORED;
+use crate::numbers::USER_NOT_SUBSCRIBED;
 
 // 01, kind 1: 1 transfer, 2 subscription option, 4 subscribed, 8 interaction allowed, 16 case D.
 pub(crate) fn flags_of(n: u8) -> Flags
@@ -229,11 +237,19 @@ pub(crate) fn cue_of(r: Reading) -> Cue
     }
 }
 
-// An error is REV's if the module lists it: the bit of its number.
+// Which errors are REV's: "A valid error is one listed in 001's module" (3.4.2), here in the module's order.
 pub(crate) fn listed(n: u8) -> bool
     ensures { λ out. ⌜ out ≡ listedOf n ⌝ }
 {
-    (n <= 15) & ((REV_ERRORS >> (n % 16)) % 2 == 1)
+    (n == USER_NOT_SUBSCRIBED)
+        | (n == REJECTED_BY_NETWORK)
+        | (n == REJECTED_BY_USER)
+        | (n == NOT_AVAILABLE)
+        | (n == INTERACTION_NOT_ALLOWED)
+        | (n == BASIC_SERVICE_NOT_PROVIDED)
+        | (n == RESOURCE_UNAVAILABLE)
+        | (n == USER_IGNORED)
+        | (n == ALREADY_RUNNING)
 }
 
 fn interaction_by(allowed: bool) -> Interaction
