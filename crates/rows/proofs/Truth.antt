@@ -1,4 +1,4 @@
--- What a test that came out true says of its parts.
+-- Tests that are joined: what one that came out true says of its parts, and that it is the same which are joined first.
 -- Assumes nothing.
 use mathlib.Core.Path.{_≡_, refl, sym, _∙_, ap}
 use mathlib.Core.Bool.{Bool, true, false, _&&_, _||_, not}

@@ -237,7 +237,7 @@ pub(crate) fn cue_of(r: Reading) -> Cue
     }
 }
 
-// Which errors are REV's: "A valid error is one listed in 001's module" (3.4.2), here in the module's order.
+// Which errors are REV's, and so valid: those that 001's module lists (3.4.2, error values), in its order.
 pub(crate) fn listed(n: u8) -> bool
     ensures { λ out. ⌜ out ≡ listedOf n ⌝ }
 {
