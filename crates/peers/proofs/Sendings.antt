@@ -4,13 +4,13 @@
 use mathlib.Core.Bool.{Bool, true, false, _&&_, _||_, not}
 use mathlib.Core.List.{List, [], _∷_}
 use mathlib.Core.Logic.{_↔_}
-use mathlib.Core.Path.{_≡_, refl, sym, ap, subst, _∙_}
-use Prim.Native.Nat.{ℕ, _/_, _%_, _^_, _≤_, _<_}
+use mathlib.Core.Path.{_≡_, refl, sym, subst, _∙_}
+use Prim.Native.Nat.{ℕ, suc, _/_, _%_, _^_, _≤_, _<_}
 use native.Mathlib.Omega.{arith}
-use borrow.Author.Tests.{leb-true, eqb-true, eqb-false, not-true}
+use borrow.Author.Tests.{leb-true, eqb-true, eqb-false, eq-eqb, not-true}
 use lib.Dec.{eqb, leb}
 use Rattle.text.specs.Choose.{ifSo, ifLt, ifEq}
-use Rattle.text.proofs.Cases.{yes-lt, no-lt, yes-eq, no-eq, both-lt, both-eq}
+use Rattle.text.proofs.Cases.{no-lt}
 use Rattle.files.specs.Bodies.{countByte, codeOf, itemOf}
 use Rattle.files.proofs.CountByte.{in-range-value}
 use Rattle.rows.specs.History.{run}
@@ -24,7 +24,7 @@ use Rattle.rows.specs.declared.Component.the-variants.{Absent, Invoke, Result, 
 use Rattle.rows.specs.declared.Event.{Event}
 use Rattle.rows.specs.declared.Event.the-variants.{Opening, Ask, Received, FromAccess, Expiry, Time}
 use Rattle.rows.specs.declared.Kind.{Kind}
-use Rattle.rows.specs.declared.Kind.the-variants.{Opens, Asks, Iam, Answer, Rel, Fac, Tells, Expires, Passes}
+use Rattle.rows.specs.declared.Kind.the-variants.{Opens}
 use Rattle.rows.specs.declared.Nature.{Nature}
 use Rattle.rows.specs.declared.Nature.the-variants.{National, International}
 use Rattle.rows.specs.declared.Number.{Number}
@@ -33,13 +33,13 @@ use Rattle.rows.specs.declared.Register.{Register}
 use Rattle.rows.specs.declared.Register.the-variants.{AsHeld, FromOpening, CalledNumber, CallingNumber}
 use Rattle.rows.specs.declared.Side.{Side}
 use Rattle.rows.proofs.Answers.{planFor, isUnopened}
-use Rattle.rows.proofs.Found.{implies, so, Test, holds, stepped}
+use Rattle.rows.proofs.Found.{implies, so, Test, holds, isKind, stepped}
 use Rattle.rows.proofs.Sent.{errorListed, error-listed}
 use Rattle.rows.proofs.Truth.{differ, left, right, either, or-true}
 use Rattle.wire.specs.Values.{absentNumber}
 use Rattle.wire.specs.Writable.{rangeOk, itemOk, argumentOk, resultOk, placesOk, writableOf}
 use Rattle.wire.proofs.Digited.{Fine}
-use Rattle.wire.proofs.Goods.{Kinds, calls, answers, fails, Sized, range-inv, written-good, good-written}
+use Rattle.wire.proofs.Goods.{Kinds, calls, answers, fails, range-inv, written-good, good-written}
 use Rattle.peers.specs.Messages.{partyOf, carriedOf, sentOf}
 
 -- ---- component and parts
@@ -79,6 +79,24 @@ listed-range n =
     (among n 7 _ (omega arith) (omega arith) (among n 8 _ (omega arith) (omega arith) (among n 9 _ (omega arith) (omega arith)
     (among n 10 _ (omega arith) (omega arith) (among n 11 _ (omega arith) (omega arith)
     (λ e. let d = eqb-true n 12 e in (omega arith, omega arith)))))))))
+
+-- from k on: k itself, or else one of those that are tried after it
+onward : (n k : ℕ) (t b : Bool) → eqb n k ≡ t → k ≤ n → (suc k ≤ n → b ≡ true) → (t || b) ≡ true
+onward n k true b e l f = refl
+onward n k false b e l f = f (omega (arith, eqb-false n k e))
+
+range-listed : (n : ℕ) → 4 ≤ n → n ≤ 12 → listedOf n ≡ true
+range-listed n l h =
+    onward n 4 _ _ refl l λ m. onward n 5 _ _ refl m λ m. onward n 6 _ _ refl m λ m. onward n 7 _ _ refl m λ m. onward n 8 _ _ refl m
+    λ m. onward n 9 _ _ refl m λ m. onward n 10 _ _ refl m λ m. onward n 11 _ _ refl m λ m. eq-eqb n 12 (omega (arith, m, h))
+
+-- the module's errors are the same to the rows, which list them, and to the wire, which has their range
+pub same-errors : (n : ℕ) → (listedOf n ≡ true) ↔ (itemOk 3 n ≡ 1)
+unfolding itemOk rangeOk ifEq ifSo
+same-errors n = (
+  λ e. let r = listed-range n e in sym (no-lt _ _ _ _ _ (r .0) (no-lt _ _ _ _ _ (r .1) refl)),
+  λ e. let r = range-inv n 4 12 e in range-listed n (r .0) (r .1),
+)
 
 shape-fits : (x : Sent) (p i : ℕ) → i < 256 → isThere x ≡ true → goesWith x p ≡ true → errorListed x ≡ true → Kinds (codeOf x) (itemOf x) p i
 unfolding itemOk placesOk ifEq ifSo
@@ -158,15 +176,7 @@ sent-fits c e i o h =
 -- ---- from the opening on the own number is there, and before it nothing is sent
 
 abbrev isOpens : Kind → Bool
-isOpens Opens = true
-isOpens Asks = false
-isOpens Iam = false
-isOpens Answer = false
-isOpens Rel = false
-isOpens Fac = false
-isOpens Tells = false
-isOpens Expires = false
-isOpens Passes = false
+isOpens k = isKind Opens k
 
 -- an own number is registered from an opening alone, and anything else happens only after one
 abbrev ownBy : Register → Bool → Bool → Bool

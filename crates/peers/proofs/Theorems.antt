@@ -12,6 +12,7 @@ use native.Mathlib.Omega.{arith}
 use lib.ListN.{length, drop}
 use Rattle.text.proofs.Cases.{yes-eq, no-eq, both-eq, no-lt, both-lt}
 use Rattle.rows.specs.History.{run}
+use Rattle.rows.specs.Read.{listedOf}
 use Rattle.rows.specs.Step.{unopenedCall, stepOf, messageOf}
 use Rattle.rows.specs.Valid.{numberThere, badFieldOf}
 use Rattle.rows.specs.declared.Call.{Call}
@@ -22,7 +23,7 @@ use Rattle.rows.specs.declared.Note.{Note}
 use Rattle.wire.specs.Grammar.{componentOf}
 use Rattle.wire.specs.Parameters.{Parameter, refused, holds, parameterOf}
 use Rattle.wire.specs.Texts.{parameterText, leavesOf}
-use Rattle.wire.specs.Writable.{badOf, writableOf}
+use Rattle.wire.specs.Writable.{itemOk, badOf, writableOf}
 use Rattle.wire.specs.declared.Answer.{Answer}
 use Rattle.wire.specs.declared.Component.{Component}
 use Rattle.wire.proofs.Fits.{FitsHeld, read-fits}
@@ -37,6 +38,11 @@ use Rattle.peers.proofs.Hosted.{parameter-fits, none-in}
 use Rattle.peers.proofs.Ranges.{fits-ranged}
 use Rattle.peers.proofs.Sendings
 use Rattle.peers.proofs.Sendings.{isThere}
+
+-- An error is one of REV's to the rows, which have the module's list, exactly if the wire has a place for it, where the module's errors are
+-- a range: none is passed on that cannot be written, and none that is read is told to a user as another.
+pub same-errors : (n : ℕ) → (listedOf n ≡ true) ↔ (itemOk 3 n ≡ 1)
+same-errors = Sendings.same-errors
 
 -- What a row sends can be written, with any identifier of a byte, exactly if its Duration is at most 921,599 seconds (255:59:59): so a
 -- Duration is all that can make it 3. The call has an own number, as every one has from its opening on ..
