@@ -1,5 +1,7 @@
 // A row of calls that a host lends, one record each (02 #107). Its first 64 calls are slots, and an event names one. What is lent
 // stays the host's: a step changes the call in its slot and no other, and the question for a free slot changes none.
+#![tactic(auto)]
+
 ghost use Rattle.std.specs.Prelude.{◌≡◌};
 ghost use Rattle.board.specs.Row.{no_slot, answer_at, row_after, free_number, free_slot, lowest_free, number_asked};
 
@@ -15,7 +17,7 @@ pub const NO_SUCH_SLOT: u8 = 19;
 const NONE_FREE: u8 = 21;
 
 // The answer to the question for the lowest free slot.
-#[derive(Drop)]
+#[derive(Clone, Copy)]
 pub enum Free {
     At(usize),
     Nowhere,

@@ -1,4 +1,6 @@
 // Writes a dump of the event file on standard input, or `REFUSED 8`.
+#![tactic(auto)]
+
 use libc::{STDIN_FILENO, STDOUT_FILENO};
 
 // Room for the dump of every file. A message of 9 bytes has the most text for its bytes: 93, with an ordinal of five digits; a slot is 6

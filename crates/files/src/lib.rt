@@ -4,6 +4,8 @@
 //
 // Every read is total, and in the texts every store: a byte past the end of the file is 0, a byte past the end of the buffer is not stored.
 // The writer of records measures first, and stores where there is room.
+#![tactic(auto)]
+
 mod bodies;
 mod bytes;
 mod dump;
@@ -32,14 +34,14 @@ pub use write::{
 };
 
 // Where a record acts: a plain one, of kind 1 to 6, on slot 0; one of kind 7 on the slot that it names.
-#[derive(Drop)]
+#[derive(Clone, Copy)]
 pub enum Where {
     Plain,
     Slot(u16),
 }
 
 // A record's frame: the number at which reading stops; or where it acts, the kind of its event and the place after it.
-#[derive(Drop)]
+#[derive(Clone, Copy)]
 pub enum Frame {
     Stop(u8),
     Body(Where, u32, usize),
@@ -47,7 +49,7 @@ pub enum Frame {
 
 // What stands at a place of a file: nothing; a record that cannot be read, with its number (5, 6 or 7); or where a record acts, its event
 // and the place after it.
-#[derive(Drop)]
+#[derive(Clone, Copy)]
 pub enum Read {
     End,
     Stop(u8),
@@ -55,7 +57,7 @@ pub enum Read {
 }
 
 // A reader that remembers the bytes it was lent, and its place in them.
-#[derive(Drop)]
+#[derive(Clone, Copy)]
 pub struct Reader<'a> {
     pub src: &'a [u8],
     pub at: usize,
@@ -63,7 +65,7 @@ pub struct Reader<'a> {
 
 // What the writer of events answers: it wrote a whole record, of so many bytes; or why it wrote nothing, of a field out of its range
 // the ordinal in the body, from 1.
-#[derive(Drop)]
+#[derive(Clone, Copy)]
 pub enum Written {
     Whole(usize),
     BadField(u8),
@@ -71,7 +73,7 @@ pub enum Written {
 }
 
 // What one reading gives: what was found, and the place where that leaves the reader.
-#[derive(Drop)]
+#[derive(Clone, Copy)]
 pub struct Taken {
     pub found: Read,
     pub next: usize,

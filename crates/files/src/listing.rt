@@ -15,7 +15,7 @@ use board::{NO_SUCH_SLOT, SLOTS};
 use rows::{Call, Outcome};
 
 // A listing that was written as far as its buffer went: its length, and whether a record names a slot.
-#[derive(Drop)]
+#[derive(Clone, Copy)]
 struct Listed {
     to: usize,
     slots: bool,

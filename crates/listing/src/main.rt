@@ -1,4 +1,6 @@
 // Writes the listing of the event file on standard input, or `REFUSED 8`.
+#![tactic(auto)]
+
 use libc::{STDIN_FILENO, STDOUT_FILENO};
 
 fn main() {

@@ -1,6 +1,8 @@
 // The three meters of one call, who pays now, and the answered total. All by value: a change gives back the meters that follow.
 // A meter counts the seconds that somebody pays; the total counts those that passed in the answered call, whoever pays them, so that
 // neither a Duration received nor a move between meters touches it. Nothing here knows of roles, messages or prices.
+#![tactic(auto)]
+
 ghost use Rattle.std.specs.Prelude.{◌≡◌};
 ghost use Rattle.meters.specs.Meters.{new_of, within_of, total_within_of, adds_up_of, paid_by_of, adds_of, give_of, entire_of, received_of};
 ghost use Rattle.meters.specs.Meters.{change_of};
@@ -9,7 +11,7 @@ ghost use Rattle.meters.specs.Meters.{change_of};
 const LIMIT: u64 = 31536000;
 
 // Whose meter runs.
-#[derive(Drop)]
+#[derive(Clone, Copy)]
 pub enum Payer {
     Nobody,
     Caller,
@@ -17,7 +19,7 @@ pub enum Payer {
     Far,
 }
 
-#[derive(Drop)]
+#[derive(Clone, Copy)]
 pub struct Meters {
     pub caller: u32,
     pub called: u32,
@@ -28,7 +30,7 @@ pub struct Meters {
 }
 
 // What a row may do to the meters.
-#[derive(Drop)]
+#[derive(Clone, Copy)]
 pub enum Change {
     Keep,
     Begin,
@@ -43,7 +45,7 @@ pub enum Change {
 }
 
 // What a change gives: the meters that follow, or that a limit would be passed.
-#[derive(Drop)]
+#[derive(Clone, Copy)]
 pub enum Metered {
     Done(Meters),
     TooMuch,

@@ -4,6 +4,8 @@
 //
 // `wire` knows nothing of calls and `rows` nothing of bytes; here a component becomes the event that a call takes, and what a row sends
 // becomes a component. For a host in C two functions carry a parameter to records of events, and a record to a parameter.
+#![tactic(auto)]
+
 mod entries;
 mod messages;
 mod parameters;
@@ -12,7 +14,7 @@ pub use messages::{alone, carried, heard, received, sent, write_sent};
 pub use parameters::{rev_read_parameter, rev_write_parameter};
 
 // What became of entries: the place after the last; or a refusal, and its rest.
-#[derive(Drop)]
+#[derive(Clone, Copy)]
 pub enum Kept {
     Refused(u8, usize),
     All(usize),

@@ -20,7 +20,7 @@ pub(crate) const TOO_LONG: u8 = 8;
 
 // What came of a line: one of the numbers above, beside 3 the ordinal of the field that is out of its range, else 0, and the place after
 // its record.
-#[derive(Drop)]
+#[derive(Clone, Copy)]
 pub(crate) struct Step {
     pub(crate) number: u8,
     pub(crate) field: u8,
@@ -28,7 +28,7 @@ pub(crate) struct Step {
 }
 
 // What came of a text: the number, the ordinal and the count of the last line that was looked at, and how many bytes are recorded.
-#[derive(Drop)]
+#[derive(Clone, Copy)]
 pub(crate) struct Recorded {
     pub(crate) number: u8,
     pub(crate) field: u8,

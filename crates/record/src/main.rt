@@ -1,5 +1,7 @@
 // Writes the event file that the text on standard input says, in the words of the dump, a line an event. A text that is refused has a
 // message on standard error, and nothing is written.
+#![tactic(auto)]
+
 mod guess;
 mod lines;
 mod pieces;
@@ -10,7 +12,7 @@ use libc::{STDERR_FILENO, STDIN_FILENO, STDOUT_FILENO};
 use rows::Event;
 
 // What the words of a line say: no event; or this one, plain or at a slot.
-#[derive(Drop)]
+#[derive(Clone, Copy)]
 pub(crate) enum Parsed {
     Unknown,
     Known(Where, Event),

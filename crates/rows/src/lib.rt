@@ -5,6 +5,8 @@
 //
 // Finding a row never sees the call, a row's plan is data, and only performing it touches the call: so a row changes in one
 // line, a number behind one name, and the call in one place. This file has the kinds that all of these share.
+#![tactic(auto)]
+
 mod find;
 mod numbers;
 mod perform;
@@ -20,14 +22,14 @@ pub use numbers::APPLIED;
 pub use telephone::same_number;
 pub use valid::{access_bad, ask_bad, in_range, message_bad, opening_bad, time_bad};
 
-#[derive(Drop)]
+#[derive(Clone, Copy)]
 pub enum Role {
     Originating,
     Destination,
 }
 
 // Unopened is 01's NONE: a call before its opening is a value too.
-#[derive(Drop)]
+#[derive(Clone, Copy)]
 pub enum Phase {
     Unopened,
     Null,
@@ -36,7 +38,7 @@ pub enum Phase {
     Cleared,
 }
 
-#[derive(Drop)]
+#[derive(Clone, Copy)]
 pub enum RevState {
     Idle,
     WaitSetup,
@@ -49,7 +51,7 @@ pub enum RevState {
 }
 
 // 02 #103: "A number now also states its nature, national or international".
-#[derive(Drop)]
+#[derive(Clone, Copy)]
 pub enum Nature {
     National,
     International,
@@ -57,7 +59,7 @@ pub enum Nature {
 
 // A telephone number: its nature, the count of its digits, and its value. Two with the same digits, one at home and one abroad, are
 // two numbers.
-#[derive(Drop)]
+#[derive(Clone, Copy)]
 pub struct Number {
     pub nature: Nature,
     pub count: u8,
@@ -72,7 +74,7 @@ pub const ABSENT: Number = Number {
 };
 
 // A message's component, by 01's code: 0 to 4, with the byte that follows (operation or error number, else 0).
-#[derive(Drop)]
+#[derive(Clone, Copy)]
 pub enum Component {
     Absent(u8),
     Invoke(u8),
@@ -83,7 +85,7 @@ pub enum Component {
 }
 
 // A message received. A number or Duration that its parts do not name is absent, or 0.
-#[derive(Drop)]
+#[derive(Clone, Copy)]
 pub struct Message {
     pub kind: u8,
     pub cause: u8,
@@ -96,7 +98,7 @@ pub struct Message {
 
 // What the actions of an answer carry. error: told to the own access. cause: of a release, to the own access or in a REL. The rest is
 // the message's. No row sends two messages, tells two errors or gives two causes, so one note serves.
-#[derive(Drop)]
+#[derive(Clone, Copy)]
 pub struct Note {
     pub error: u8,
     pub cause: u8,
@@ -109,7 +111,7 @@ pub struct Note {
 
 // One case for each kind of record. The fields are the numbers that the record carries, so that every well-framed record
 // has its event; where one is out of its range the call answers 3.
-#[derive(Drop)]
+#[derive(Clone, Copy)]
 pub enum Event {
     Opening(u8, u8, Number),
     Ask(u8, Number),
@@ -120,7 +122,7 @@ pub enum Event {
 }
 
 // What an event says, in one form for all kinds.
-#[derive(Drop)]
+#[derive(Clone, Copy)]
 pub struct Reading {
     pub kind: Kind,
     // the role of an opening, what the own user asks, what the access tells
@@ -138,7 +140,7 @@ pub struct Reading {
 }
 
 // What an event is to the tables that find its row.
-#[derive(Drop)]
+#[derive(Clone, Copy)]
 pub struct Cue {
     pub kind: Kind,
     pub asked: Asked,
@@ -147,7 +149,7 @@ pub struct Cue {
 }
 
 // Answer: ANM or CON, which no row tells apart.
-#[derive(Drop)]
+#[derive(Clone, Copy)]
 pub enum Kind {
     Opens,
     Asks,
@@ -161,7 +163,7 @@ pub enum Kind {
 }
 
 // What the own user asks for: a basic call, or reverse charging by case A, B or C.
-#[derive(Drop)]
+#[derive(Clone, Copy)]
 pub struct Asked {
     pub basic: bool,
     pub casea: bool,
@@ -171,7 +173,7 @@ pub struct Asked {
 }
 
 // What a message's component is. invoke: with any operation.
-#[derive(Drop)]
+#[derive(Clone, Copy)]
 pub struct Heard {
     pub alone: bool,
     pub invoke: bool,
@@ -186,7 +188,7 @@ pub struct Heard {
 }
 
 // What the own access tells. answers: without REV.
-#[derive(Drop)]
+#[derive(Clone, Copy)]
 pub struct Told {
     pub accepts: bool,
     pub refuses: bool,
@@ -197,7 +199,7 @@ pub struct Told {
 
 // A row of the clause, or the rows of one sentence that differ by flags, transfer or an error number alone.
 // The names O1 .. O40, D1 .. D60 and G1 .. G5 are those of docs/ROWS.md.
-#[derive(Drop)]
+#[derive(Clone, Copy)]
 pub enum Row {
     // no row: 1, 15 or 16
     NoRow,
@@ -288,14 +290,14 @@ pub enum Row {
 }
 
 // Whether another service of the own user allows REV (3.6).
-#[derive(Drop)]
+#[derive(Clone, Copy)]
 pub enum Interaction {
     Allowed,
     NotAllowed,
 }
 
 // What the checks of a request say, in their order: the subscription, under its option; interaction.
-#[derive(Drop)]
+#[derive(Clone, Copy)]
 pub enum Judged {
     Passed,
     NotSubscribed,
@@ -303,35 +305,35 @@ pub enum Judged {
 }
 
 // Transfer mode: the destination exchange charges.
-#[derive(Drop)]
+#[derive(Clone, Copy)]
 pub enum Mode {
     NoTransfer,
     Transfer,
 }
 
 // How much of an answered call: the rest of it, case B; the entire call, case C.
-#[derive(Drop)]
+#[derive(Clone, Copy)]
 pub enum Extent {
     Rest,
     Entire,
 }
 
 // REV when it is asked for; or for every call, case D.
-#[derive(Drop)]
+#[derive(Clone, Copy)]
 pub enum Service {
     OnRequest,
     Unconditional,
 }
 
 // 001: "this return error value is correct for REV", or not.
-#[derive(Drop)]
+#[derive(Clone, Copy)]
 pub enum Correctness {
     Correct,
     Incorrect,
 }
 
 // What a row may look at besides its state: flags, parts, what is pending, an error.
-#[derive(Drop)]
+#[derive(Clone, Copy)]
 pub struct Terms {
     // the flags: interaction; subscription, under its option, and then interaction; transfer mode; case D
     pub interaction: Interaction,
@@ -358,7 +360,7 @@ pub struct Terms {
 }
 
 // What a row does. number: 0, or the refusal.
-#[derive(Drop)]
+#[derive(Clone, Copy)]
 pub struct Plan {
     pub number: u8,
     pub next: Next,
@@ -377,7 +379,7 @@ pub struct Plan {
 }
 
 // Where the call stands next. A wait that has agreed on transfer, or asked for the rest or for the entire call, remembers it.
-#[derive(Drop)]
+#[derive(Clone, Copy)]
 pub enum Next {
     Stay,
     ToNull,
@@ -399,7 +401,7 @@ pub enum Next {
 }
 
 // What is registered for charging.
-#[derive(Drop)]
+#[derive(Clone, Copy)]
 pub enum Register {
     AsHeld,
     FromOpening,
@@ -408,7 +410,7 @@ pub enum Register {
 }
 
 // An action. In a plan, Stop is given only if a payer charged at this exchange changes.
-#[derive(Drop)]
+#[derive(Clone, Copy)]
 pub enum Act {
     Nothing,
     NotifyAccepted,
@@ -425,7 +427,7 @@ pub enum Act {
     SendFac,
 }
 
-#[derive(Drop)]
+#[derive(Clone, Copy)]
 pub struct Flags {
     pub transfer: bool,
     pub option: bool,
@@ -435,7 +437,7 @@ pub struct Flags {
 }
 
 // Which exchange this is, and whose numbers it holds.
-#[derive(Drop)]
+#[derive(Clone, Copy)]
 pub struct Side {
     pub role: Role,
     pub flags: Flags,
@@ -445,7 +447,7 @@ pub struct Side {
 }
 
 // Where the call stands. Pending in a wait: transfer was agreed; the rest of the call alone was asked for.
-#[derive(Drop)]
+#[derive(Clone, Copy)]
 pub struct Stand {
     pub phase: Phase,
     pub rev: RevState,
@@ -454,7 +456,7 @@ pub struct Stand {
 }
 
 // One call at one exchange.
-#[derive(Drop)]
+#[derive(Clone, Copy)]
 pub struct Call {
     pub side: Side,
     pub stand: Stand,
@@ -464,7 +466,7 @@ pub struct Call {
 // The answer to an event. The actions stand in order, and the note has what they carry; Nothing among them is none, and a host
 // skips it. A refusal has the call as it stood and no action. Where the number is 3, field is the ordinal of the event's first field that is
 // out of its range, from 1 as they stand in a record's body; else it is 0.
-#[derive(Drop)]
+#[derive(Clone, Copy)]
 pub struct Outcome {
     pub number: u8,
     pub field: u8,

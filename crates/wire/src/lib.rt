@@ -4,6 +4,8 @@
 //
 // An element is a tag, a length, and as many bytes of contents; one whose tag has bit 32 holds elements, and these may hold elements. Every
 // read is total: a byte past the end of the slice is 0.
+#![tactic(auto)]
+
 mod bytes;
 mod components;
 mod cursors;
@@ -21,14 +23,14 @@ pub use writable::bad_field;
 pub use writer::{write_component, write_parameter};
 
 // An element's first bytes: the number at which reading stops; or its tag, where its contents begin, and the place after them.
-#[derive(Drop)]
+#[derive(Clone, Copy)]
 pub enum Head {
     Bad(u8),
     Open(u8, usize, usize),
 }
 
 // What was seen from a place on: the place after it; or a refusal's number, and where it was met.
-#[derive(Drop)]
+#[derive(Clone, Copy)]
 pub enum Seen {
     Read(usize),
     Stop(u8, usize),
@@ -36,7 +38,7 @@ pub enum Seen {
 
 // Where a reader is. number: 0, or the refusal that stopped it, at the place `at`; nothing moves it then. at: the place of the next element.
 // body: where the contents of the element last asked for begin; 0 if it did not stand there.
-#[derive(Drop)]
+#[derive(Clone, Copy)]
 pub struct Cursor {
     pub number: u8,
     pub at: usize,
@@ -44,21 +46,21 @@ pub struct Cursor {
 }
 
 // Digits, two in a byte: one above 9, or their value.
-#[derive(Drop)]
+#[derive(Clone, Copy)]
 pub enum Digits {
     Bad,
     Value(u64),
 }
 
 // A telephone number as a record of 01 has it: the count of its digits, 128 more for an international one, and its value. Absent: 0 and 0.
-#[derive(Drop)]
+#[derive(Clone, Copy)]
 pub struct Number {
     pub count: u8,
     pub value: u64,
 }
 
 // A component as 01 has it: kind 1 to 4, operation or error number, parts, and their values. id: its invoke identifier, 256 for none.
-#[derive(Drop)]
+#[derive(Clone, Copy)]
 pub struct Component {
     pub kind: u8,
     pub item: u8,
@@ -70,7 +72,7 @@ pub struct Component {
 }
 
 // What the last of a SEQUENCE's own elements says: the part that it sets, or 0; and a Duration.
-#[derive(Drop)]
+#[derive(Clone, Copy)]
 pub struct Last {
     pub cursor: Cursor,
     pub part: u8,
@@ -78,7 +80,7 @@ pub struct Last {
 }
 
 // What a SEQUENCE says. number: of the part 16 or 32, else absent.
-#[derive(Drop)]
+#[derive(Clone, Copy)]
 pub struct Said {
     pub cursor: Cursor,
     pub parts: u8,
@@ -87,35 +89,35 @@ pub struct Said {
 }
 
 // What a SEQUENCE in the usual form says; or it has another form.
-#[derive(Drop)]
+#[derive(Clone, Copy)]
 pub enum Parted {
     Other,
     Usual(Said),
 }
 
 // A component in the usual form; or it has another form.
-#[derive(Drop)]
+#[derive(Clone, Copy)]
 pub enum Form {
     Other,
     Usual(Component),
 }
 
 // A component and the place after it; or a refusal's number and place.
-#[derive(Drop)]
+#[derive(Clone, Copy)]
 pub enum Answer {
     Refused(u8, usize),
     Read(Component, usize),
 }
 
 // A parameter's own three bytes: refused, with number and place; or good.
-#[derive(Drop)]
+#[derive(Clone, Copy)]
 pub enum Frame {
     Bad(u8, usize),
     Good,
 }
 
 // What a parameter is: refused, with number and place; of no component; of one; or of several, which read_component reads from place 3 on.
-#[derive(Drop)]
+#[derive(Clone, Copy)]
 pub enum Whole {
     Refused(u8, usize),
     Empty,
@@ -124,7 +126,7 @@ pub enum Whole {
 }
 
 // A text written, with its length; or a refusal's number, and with 3 the ordinal of the first field that is out of range, else 0.
-#[derive(Drop)]
+#[derive(Clone, Copy)]
 pub enum Written {
     Done(usize),
     Refused(u8, u8),

@@ -1,6 +1,8 @@
 // Reads a parameter of remote operations on standard input, or with -c the component that the input begins with, and writes a line for each
 // component, or the refusal; with -w ROOM it reads such a line, and writes the component into a room of so many bytes. -x: bytes are
 // hexadecimal text. An input that is no such text, or no such line, has a message on standard error, and nothing is written.
+#![tactic(auto)]
+
 ghost use Rattle.std.specs.Prelude.{◌+◌, ◌^◌, ◌<◌, ◌≤◌, length};
 
 mod answers;
@@ -14,21 +16,21 @@ use libc::{STDERR_FILENO, STDIN_FILENO, STDOUT_FILENO};
 use wire::{Component, Written};
 
 // What a text of hexadecimal digits says: it is none; or so many octets.
-#[derive(Drop)]
+#[derive(Clone, Copy)]
 pub(crate) enum Hexed {
     Bad,
     Octets(usize),
 }
 
 // What a line says: no component; or this one, and the forms of its numbers.
-#[derive(Drop)]
+#[derive(Clone, Copy)]
 pub(crate) enum Parsed {
     Unknown,
     Known(u8, Component),
 }
 
 // What comes of a line: it says no component; or what its writer answers.
-#[derive(Drop)]
+#[derive(Clone, Copy)]
 pub(crate) enum Done {
     Unknown,
     Known(Written),
