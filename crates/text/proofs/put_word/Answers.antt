@@ -1,0 +1,5 @@
+use Rattle.text.proofs.Laws.{put_past}
+use Rattle.text.proofs.put_word.Goals as goal
+
+pub returns-then-out-at : goal.returns-then-out-at
+returns-then-out-at c = search put_past
