@@ -2,10 +2,9 @@
 -- that a place may know of.
 -- Assumes nothing.
 use mathlib.Core.Path.{◌≡◌, refl, sym, ◌∙◌, ap}
-use mathlib.Core.Bool.{Bool, true, false, ◌&&◌, ◌||◌, not}
-use Prim.Native.Nat.{ℕ}
+use mathlib.Core.Bool.{Bool, true, false, ◌&&◌, ◌||◌}
 use Rattle.rows.specs.Valid.{pickℕ}
-use Rattle.rows.specs.Why.{some_phase, row_in, row_ever, why_of, small_has, small_ever}
+use Rattle.rows.specs.Why.{row_in, row_ever, why_of, small_has, small_ever}
 use Rattle.rows.specs.declared.Asked.{Asked}
 use Rattle.rows.specs.declared.Cue.{Cue}
 use Rattle.rows.specs.declared.Heard.{Heard}

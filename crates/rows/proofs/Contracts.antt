@@ -7,7 +7,6 @@ use base.Logic.{SProp, emp}
 use contract.Lifetimes.{Lfts}
 use contract.Monad.{Fun, fact}
 use denote.Triple.Clauses.{Ended}
-use denote.Triple.End.{Outs}
 use denote.Triple.Entry.{Args, Res}
 use denote.Triple.Spec.{SpecAt, exits}
 use types.Logic.{Logic}

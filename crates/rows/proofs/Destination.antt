@@ -462,10 +462,10 @@ abbrev count_all : ℕ → Bool → ℕ → List Step → ℕ
 count_all f w x [] = x
 count_all f w x (s ∷ h) = count_all f (entire_asked w s) (counts (gives_transfer f s.event) w x s) h
 
-reached : (f : ℕ) {c : Call} {w : Bool} {x : ℕ} (es : List Event) → Agrees f c w x → none_opens (history c es) ≡ true →
+reached : (f : ℕ) (es : List Event) {c : Call} {w : Bool} {x : ℕ} → Agrees f c w x → none_opens (history c es) ≡ true →
     Agrees f (run c es) (remembered w (history c es)) (count_all f w x (history c es))
 reached f [] y u = y
-reached f {c} (e ∷ es) y u =
+reached f (e ∷ es) {c} y u =
     reached f es (keeps f e y (first_unopening (written c e (step_of c e)) (history (step_of c e).call es) u))
     (rest_unopening (written c e (step_of c e)) (history (step_of c e).call es) u)
 

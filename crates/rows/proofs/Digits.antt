@@ -256,10 +256,11 @@ module _ {c d : Call} {e e' : Event} (y : Renumbered c d) (z : Redialled e e') w
 
 pub run_alike : {c d : Call} {es es' : List Event} → Renumbered c d → AllRedialled es es' → Renumbered (run c es) (run d es')
 run_alike y no_more = y
-run_alike y (and_then z zs) = run_alike (step_alike y z).call zs
+run_alike {c = c} {d = d} y (and_then {e = e} {e' = e'} {es = es} {es' = es'} z zs) =
+    run_alike {c = (step_of c e).call} {d = (step_of d e').call} (step_alike y z).call zs
 
 pub numbers_alike : {c d : Call} {es es' : List Event} → Renumbered c d → AllRedialled es es' → numbers (history c es) ≡ numbers (history d es')
 numbers_alike y no_more = refl
 numbers_alike {c} {d} y (and_then {e = e} {e' = e'} {es = es} {es' = es'} z zs) =
     ap (λ (n : ℕ). n ∷ numbers (history (step_of c e).call es)) (step_alike y z).number
-    ∙ ap (λ (ns : List ℕ). (step_of d e').number ∷ ns) (numbers_alike (step_alike y z).call zs)
+    ∙ ap (λ (ns : List ℕ). (step_of d e').number ∷ ns) (numbers_alike {c = (step_of c e).call} {d = (step_of d e').call} (step_alike y z).call zs)

@@ -1,6 +1,6 @@
 -- FIELDS IN RANGE: what is known of an event whose fields are, and that the ordinal names the first that is not.
 -- Assumes nothing.
-use mathlib.Core.Path.{◌≡◌, refl, sym, ◌∙◌, ap}
+use mathlib.Core.Path.{◌≡◌, refl, sym, ◌∙◌}
 use mathlib.Core.Bool.{Bool, true, false, ◌&&◌, ◌||◌}
 use mathlib.Core.List.{List, [], ◌∷◌}
 use mathlib.Core.Logic.{◌↔◌}
@@ -8,7 +8,7 @@ use Prim.Native.Nat.{ℕ, zero, suc, ◌<◌, ◌≤◌, ◌+◌}
 use native.Mathlib.Omega.{arith}
 use lib.Dec.{eqb, leb}
 use Rattle.rows.specs.Read.{bit}
-use Rattle.rows.specs.Valid.{every_one, first_false, number_there, number_absent, number_if, code_ok, item_ok, parts_ok, present_then, carried_ranges}
+use Rattle.rows.specs.Valid.{every_one, first_false, number_there, number_absent, number_if, code_ok, item_ok, parts_ok, present_then}
 use Rattle.rows.specs.Perform.{refused_at}
 use Rattle.rows.specs.Reasons.{field_in, FirstOut}
 use Rattle.rows.specs.Step.{takes_of, if_in_range}

@@ -6,7 +6,7 @@ use mathlib.Core.List.{List, [], ◌∷◌, ◌++◌}
 use Prim.Native.Nat.{ℕ, ◌+◌, ◌≤◌}
 use native.Mathlib.Omega.{arith}
 use Rattle.rows.specs.Bill.{pick, Step, accepted, is_answered, counted, seconds_in, is_rev, Case, Mark, plain, second, reversed, Paid}
-use Rattle.rows.specs.Bill.{Took, nothing, took, turns, in_effect, said, waits, mark, marks, reversal, payer, payments, bill}
+use Rattle.rows.specs.Bill.{Took, nothing, took, in_effect, waits, mark, marks, reversal, payer, payments, bill}
 use Rattle.rows.specs.Bill.{an_opening, opens, none_opens}
 use Rattle.rows.specs.History.{run, written, history, opening}
 use Rattle.rows.specs.Promises.{reversals, Extends, with_more}
@@ -25,7 +25,7 @@ use Rattle.rows.specs.declared.RevState.TheVariants.{Active}
 use Rattle.rows.specs.declared.Row.{Row}
 use Rattle.rows.proofs.Answers.{refused_or_performed}
 use Rattle.rows.proofs.Truth.{both, differ, left, right}
-use Rattle.rows.proofs.Whole.{Known, known, note, note_seconds, read_all, waiting, Agrees, null, setup, asked_a, asked_d, talks}
+use Rattle.rows.proofs.Whole.{Known, known, note, read_all, waiting, Agrees, null, setup, asked_a, asked_d, talks}
 use Rattle.rows.proofs.Whole.{asked_b, turned, over, after_clearing, Unopening, keeps, first_unopening, rest_unopening, reached}
 use Rattle.rows.proofs.Whole.{from_opening}
 
@@ -34,13 +34,13 @@ use Rattle.rows.proofs.Whole.{from_opening}
 turn_after : (k : Case) (t : Bool) (x y : ℕ) (ms : List Mark) → (read_all (known (took k t) x y) ms).turn ≡ took k t
 turn_after k t x y [] = refl
 turn_after k t x y (plain ∷ ms) = turn_after k t x y ms
-turn_after k t x y (second n ∷ ms) = turn_after k t x _ ms
+turn_after k t x y (second n ∷ ms) = turn_after k t x (y + n) ms
 turn_after k t x y (reversed k' t' ∷ ms) = turn_after k t x y ms
 
 turn_is : (x : ℕ) (ms : List Mark) → (read_all (known nothing x 0) ms).turn ≡ reversal ms
 turn_is x [] = refl
 turn_is x (plain ∷ ms) = turn_is x ms
-turn_is x (second n ∷ ms) = turn_is _ ms
+turn_is x (second n ∷ ms) = turn_is (x + n) ms
 turn_is x (reversed k t ∷ ms) = turn_after k t x 0 ms
 
 abbrev Pays : Call → Known → Type 0
@@ -149,10 +149,10 @@ ended_keeps {f} {c} {d} (over z) h e n =
     Calmly : Outcome → Type 0
     Calmly a = Ended a.call × Calm (mark f d (written c e a))
 
-none_after : {f : ℕ} {c : Call} {d : Mark} {o : Known} (es : List Event) → Agrees f c d o → none_opens (history c es) ≡ true → Ended c →
+none_after : {f : ℕ} (es : List Event) {c : Call} {d : Mark} {o : Known} → Agrees f c d o → none_opens (history c es) ≡ true → Ended c →
     reversals (marks f d (history c es)) ≡ 0
 none_after [] y n h = refl
-none_after {f} {c} {d} (e ∷ es) y n h =
+none_after {f} (e ∷ es) {c} {d} y n h =
     let s = written c e (step_of c e) in
     let u = first_unopening s (history (step_of c e).call es) n in
     let k = ended_keeps y h e u in
@@ -167,10 +167,10 @@ at_most_one w x y (second n) es a u h = h
 at_most_one nothing x y (reversed k t) es a u h = omega (arith, none_after es a u (took_ended a refl))
 at_most_one (took k' t') x y (reversed k t) es a u h = omega (arith, none_after es a u (took_ended a refl))
 
-turns_once : {f : ℕ} {c : Call} {d : Mark} {o : Known} (es : List Event) → Agrees f c d o → none_opens (history c es) ≡ true →
+turns_once : {f : ℕ} (es : List Event) {c : Call} {d : Mark} {o : Known} → Agrees f c d o → none_opens (history c es) ≡ true →
     reversals (marks f d (history c es)) ≤ 1
 turns_once [] y n = omega arith
-turns_once {f} {c} {d} {o} (e ∷ es) y n =
+turns_once {f} (e ∷ es) {c} {d} {o} y n =
     let s = written c e (step_of c e) in
     let u = first_unopening s (history (step_of c e).call es) n in
     let r = rest_unopening s (history (step_of c e).call es) n in

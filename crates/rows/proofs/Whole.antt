@@ -512,10 +512,10 @@ abbrev pub waiting : ℕ → Mark → List Step → Mark
 waiting f d [] = d
 waiting f d (s ∷ h) = waiting f (waits f d s) h
 
-pub reached : (f : ℕ) {c : Call} {d : Mark} {o : Known} (es : List Event) → Agrees f c d o → none_opens (history c es) ≡ true →
+pub reached : (f : ℕ) (es : List Event) {c : Call} {d : Mark} {o : Known} → Agrees f c d o → none_opens (history c es) ≡ true →
     Agrees f (run c es) (waiting f d (history c es)) (read_all o (marks f d (history c es)))
 reached f [] y n = y
-reached f {c} (e ∷ es) y n =
+reached f (e ∷ es) {c} y n =
     reached f es (keeps f e y (first_unopening (written c e (step_of c e)) (history (step_of c e).call es) n))
     (rest_unopening (written c e (step_of c e)) (history (step_of c e).call es) n)
 

@@ -94,12 +94,12 @@ is_stop Act.SendRel = false
 is_stop Act.SendFac = false
 
 abbrev pub if_stop : Bool → Act → Act → Act
-if_stop true stop act = stop
-if_stop false stop act = act
+if_stop true s act = s
+if_stop false s act = act
 
 -- Stop as the change of payer makes it; any other action as it stands
 abbrev pub given_as : Act → Act → Act
-given_as act stop = if_stop (is_stop act) stop act
+given_as act s = if_stop (is_stop act) s act
 
 -- ---- Where the call stands next: phase, REV state; pending, transfer agreed and the rest of the call asked for
 

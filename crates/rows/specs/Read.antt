@@ -27,7 +27,6 @@ use Rattle.rows.specs.declared.Kind.TheVariants.{Opens, Asks, Iam, Answer, Rel, 
 use Rattle.rows.specs.declared.Message.{Message}
 use Rattle.rows.specs.declared.Mode.{Mode}
 use Rattle.rows.specs.declared.Mode.TheVariants.{NoTransfer, Transfer}
-use Rattle.rows.specs.declared.Number.{Number}
 use Rattle.rows.specs.declared.Reading.{Reading}
 use Rattle.rows.specs.declared.Service.{Service}
 use Rattle.rows.specs.declared.Service.TheVariants.{OnRequest, Unconditional}

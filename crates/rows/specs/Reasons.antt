@@ -1,7 +1,7 @@
 -- WHAT IS PROMISED of the reasons for a refusal (02 #106): the words that the theorems on 1, 3, 15, 16, 17 and 20 use. Here the tables are
 -- asked themselves (Find.antt), as the request does: "the role has a row". proofs/Theorems.antt states them.
 -- Assumes nothing.
-use Rattle.std.specs.Prelude.{ℕ, zero, suc, ◌<◌, Bool, true, false, ◌||◌, List, [], ◌∷◌, ◌↔◌, ◌⊎◌, ◌≡◌, eqb}
+use Rattle.std.specs.Prelude.{ℕ, zero, suc, ◌<◌, Bool, true, false, ◌||◌, List, [], ◌∷◌, ◌⊎◌, ◌≡◌, eqb}
 use Rattle.rows.specs.Find.{row_for_of}
 use Rattle.rows.specs.Promises.{sent}
 use Rattle.rows.specs.Read.{read_of, cue_of}
