@@ -162,9 +162,9 @@ kinds_ok k n p x (rejects e h l a) =
       id = most_ok 256 x h;
     })
 
-number_ok : (n : Number) → Fine n → number_ok n ≡ 1
+number_ok_lem : (n : Number) → Fine n → number_ok n ≡ 1
 unfolding number_ok
-number_ok n w = sym (no_lt _ _ _ _ _ w.some (no_lt _ _ _ _ _ w.most (yes_lt _ _ _ _ _ w.fits refl)))
+number_ok_lem n w = sym (no_lt _ _ _ _ _ w.some (no_lt _ _ _ _ _ w.most (yes_lt _ _ _ _ _ w.fits refl)))
 
 unnamed_ok_lem : (b : ℕ) (n : Number) → b < 2 → (b ≡ 0 → n ≡ absent_number) → unnamed_ok b n ≡ 1
 unfolding unnamed_ok
@@ -194,8 +194,8 @@ good_written c g k =
           (both_ok_lem _ _ (unnamed_ok_lem (c.parts / 16 % 2) c.calling (omega arith) g.calling_none)
           (both_ok_lem _ _ (unnamed_ok_lem (c.parts / 32 % 2) c.called (omega arith) g.called_none)
           (untimed_ok_lem (c.parts / 64 % 2) c.duration (omega arith) g.duration_none)));
-      calling = λ h. number_ok _ (g.calling_fine h);
-      called = λ h. number_ok _ (g.called_fine h);
+      calling = λ h. number_ok_lem _ (g.calling_fine h);
+      called = λ h. number_ok_lem _ (g.called_fine h);
       duration = λ _. most_ok 921599 c.duration g.duration_most;
       id = w.id;
     })

@@ -1,0 +1,12 @@
+use Rattle.wire.proofs.Productions.{open_within, whole_bad, whole_open}
+use borrow.Author.Rules.{rules}
+use Rattle.wire.proofs.components.read_component.Goals as goal
+
+pub slice_bounds-by_kind-end : goal.slice_bounds-by_kind-end
+slice_bounds-by_kind-end c = search (open_within, whole_bad, whole_open, rules)
+
+pub returns-in-Bad : goal.returns-in-Bad
+returns-in-Bad c = search (open_within, whole_bad, whole_open, rules)
+
+pub returns-in-Open : goal.returns-in-Open
+returns-in-Open c = search (open_within, whole_bad, whole_open, rules)

@@ -1,0 +1,18 @@
+use Rattle.std.proofs.Common.{arith}
+use Rattle.wire.proofs.Contents.{value_fits, pairs_none, pairs_on, pairs_done, pairs_bad}
+use Rattle.wire.proofs.values.pairs.Goals as goal
+
+pub loop-j-init : goal.loop-j-init
+loop-j-init c = (omega arith, pairs_none _ _)
+
+pub paired-d-requires : goal.paired-d-requires
+paired-d-requires c = search value_fits
+
+pub returns-in-Bad : goal.returns-in-Bad
+returns-in-Bad c = search pairs_bad
+
+pub loop-j-preserved : goal.loop-j-preserved
+loop-j-preserved c = (omega arith, search pairs_on)
+
+pub returns : goal.returns
+returns c = pairs_done _ _ _ _ _ (omega arith) c.loop-j.invariant.1
