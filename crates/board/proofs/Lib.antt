@@ -6,4 +6,3 @@ pub mod Runs
 pub mod Same
 pub mod Slots
 pub mod Theorems
-pub mod Walk

@@ -1,8 +1,8 @@
--- The definitions of a row, as its walks meet them: at a slot that is there, and past the end.
+-- The definitions of a row, as its functions meet them: at a slot that is there, and past the end.
 -- Assumes nothing.
-use mathlib.Core.Path.{◌≡◌, refl, sym, ap, ◌∙◌}
-use Prim.Native.Nat.{ℕ, zero, suc, ◌+◌, ◌-◌, ◌*◌, ◌≤◌, ◌<◌, ◌^◌}
-use native.Mathlib.Nat.{not-suc-le-zero, le_of_suc-le-suc, le_of_lt, mul-le-mul_right}
+use mathlib.Core.Path.{◌≡◌, refl, sym, ap, subst, ◌∙◌}
+use Prim.Native.Nat.{ℕ, zero, suc, ◌+◌, ◌-◌, ◌≤◌, ◌<◌}
+use native.Mathlib.Nat.{not-suc-le-zero, le_of_suc-le-suc}
 use native.Mathlib.Omega.{arith}
 use mathlib.Core.Bool.{Bool, true, false, not, ◌&&◌, ◌||◌}
 use mathlib.Core.List.{List, [], ◌∷◌}
@@ -16,7 +16,7 @@ use Rattle.board.specs.Row.{no_slot, answer_at, row_after, free_number, free_fro
 use Rattle.rows.specs.declared.Call.{Call}
 use Rattle.rows.specs.declared.Event.{Event}
 use Rattle.board.specs.declared.Free.TheVariants.{At, Nowhere}
-use Rattle.board.proofs.Laws.{at_place, answer_is, row_is, past_63, past_the_end}
+use Rattle.board.proofs.Laws.{some_is, at_place, answer_is, row_is, past_63, past_the_end}
 
 -- what the code tests
 abbrev pub There : List Call → ℕ → Bool
@@ -24,10 +24,6 @@ There cs i = ltb i slots && ltb i (length cs)
 
 pub within : (cs : List Call) (i : ℕ) → T (There cs i) → i < length cs
 within cs i h = ltb→lt i (length cs) (and_yes (ltb i slots) (ltb i (length cs)) h).1
-
--- an element's place fits, since the row has room
-pub fits : (n i s : ℕ) → i < n → n * s < 2 ^ 63 → i * s < 2 ^ 64
-fits n i s h k = omega (arith, mul-le-mul_right s (le_of_lt h))
 
 below : (cs : List Call) (i : ℕ) → T (There cs i) → i < slots
 below cs i h = ltb→lt i slots (and_yes (ltb i slots) (ltb i (length cs)) h).0
@@ -51,68 +47,64 @@ answer_past cs i e h = past cs i h (λ k. (past_63 cs i e k).0) (λ k. (past_the
 pub row_past : (cs : List Call) (i : ℕ) (e : Event) → T (not (There cs i)) → row_after cs i e ≡ cs
 row_past cs i e h = past cs i h (λ k. (past_63 cs i e k).1) (λ k. (past_the_end cs i e k).1)
 
--- ---- the search for a free slot: i is the place, and t slots are left to be looked at
-abbrev pub at : ℕ → ℕ
-at t = slots - t
+-- what a test that the code made says
+pub told : {b : Bool} → b ≡ true → T b
+told {b} e = subst T (sym e) tt
+
+pub untold : {b : Bool} → b ≡ false → T (not b)
+untold {b} e = subst (λ (x : Bool). T (not x)) (sym e) tt
+
+-- a call that is there, whatever would be read past the end
+pub same_place : (cs : List Call) (i : ℕ) (d d' : Call) → i < length cs → get_or cs i d ≡ get_or cs i d'
+same_place cs i d d' h = some_is (sym (at_place cs i d h) ∙ at_place cs i d' h)
+
+-- ---- the search for a free slot: i is the place
 
 -- what the loop knows
 abbrev pub Left : List Call → ℕ → Type 0
-Left cs t = (at t + t ≡ slots) × (lowest_free cs ≡ free_from t (at t) (drop (at t) cs))
+Left cs i = (i ≤ slots) × (lowest_free cs ≡ free_from (slots - i) i (drop i cs))
 
 drop_cons : (cs : List Call) (i : ℕ) → i < length cs → drop i cs ≡ get_or cs i unopened_call ∷ drop (suc i) cs
 drop_cons [] i h = absurd (not-suc-le-zero h)
 drop_cons (c ∷ cs) zero h = refl
 drop_cons (c ∷ cs) (suc i) h = drop_cons cs i (le_of_suc-le-suc h)
 
-pub place_fits : (cs : List Call) (i : ℕ) → T (There cs i) → i < 2 ^ 64
-place_fits cs i h = omega (arith, below cs i h)
-
-pub next_fits : (cs : List Call) (i : ℕ) → T (There cs i) → i + 1 < 2 ^ 64
-next_fits cs i h = omega (arith, below cs i h)
-
 -- one slot is looked at
 looked : (cs : List Call) (i u : ℕ) → T (There cs i) → free_from (suc u) i (drop i cs) ≡ pick (free_of (get_or cs i unopened_call)) (At i) (free_from u (suc i) (drop (suc i) cs))
 looked cs i u h = ap (free_from (suc u) i) (drop_cons cs i (within cs i h))
 
-more_left : (cs : List Call) (t : ℕ) → Left cs t → T (There cs (at t)) → t ≡ suc (t - 1)
-more_left cs t l h = omega (arith, l.0, below cs (at t) h)
+more_left : (cs : List Call) (i : ℕ) → T (There cs i) → slots - i ≡ suc (slots - (i + 1))
+more_left cs i h = omega (arith, below cs i h)
 
-pub found : (cs : List Call) (t : ℕ) → Left cs t → T (There cs (at t)) → (r : Bool) → r ≡ free_of (get_or cs (at t) unopened_call) → T r → At (at t) ≡ lowest_free cs
-found cs t l h true e y =
-    sym (l.1 ∙ ap (λ (k : ℕ). free_from k (at t) (drop (at t) cs)) (more_left cs t l h) ∙ looked cs (at t) (t - 1) h
-    ∙ ap (λ (b : Bool). pick b (At (at t)) (free_from (t - 1) (suc (at t)) (drop (suc (at t)) cs))) (sym e))
-found cs t l h false e y = absurd y
+-- at a place that the loop reaches, by whether the call there is free
+turn : (cs : List Call) (i : ℕ) → Left cs i → T (There cs i) → (r : Bool) → r ≡ free_of (get_or cs i unopened_call) →
+    lowest_free cs ≡ pick r (At i) (free_from (slots - (i + 1)) (suc i) (drop (suc i) cs))
+turn cs i l h r e =
+    l.1 ∙ ap (λ (k : ℕ). free_from k i (drop i cs)) (more_left cs i h) ∙ looked cs i (slots - (i + 1)) h
+    ∙ ap (λ (b : Bool). pick b (At i) (free_from (slots - (i + 1)) (suc i) (drop (suc i) cs))) (sym e)
 
-pub onward : (cs : List Call) (t : ℕ) → Left cs t → T (There cs (at t)) → at t + 1 ≡ at (t - 1)
-onward cs t l h = omega (arith, l.0, more_left cs t l h)
+pub found : (cs : List Call) (i : ℕ) → Left cs i → T (There cs i) → (r : Bool) → r ≡ free_of (get_or cs i unopened_call) → r ≡ true → At i ≡ lowest_free cs
+found cs i l h r e y = sym (turn cs i l h r e ∙ ap (λ (b : Bool). pick b (At i) (free_from (slots - (i + 1)) (suc i) (drop (suc i) cs))) y)
 
-pub fewer : (cs : List Call) (t : ℕ) → Left cs t → T (There cs (at t)) → t - 1 < t
-fewer cs t l h = omega (arith, more_left cs t l h)
-
-pub goes_on : (cs : List Call) (t : ℕ) → Left cs t → T (There cs (at t)) → (r : Bool) → r ≡ free_of (get_or cs (at t) unopened_call) → T (not r) → Left cs (t - 1)
-goes_on cs t l h true e y = absurd y
-goes_on cs t l h false e y = (
-  omega (arith, l.0, onward cs t l h, more_left cs t l h),
-  l.1 ∙ ap (λ (k : ℕ). free_from k (at t) (drop (at t) cs)) (more_left cs t l h) ∙ looked cs (at t) (t - 1) h
-      ∙ ap (λ (b : Bool). pick b (At (at t)) (free_from (t - 1) (suc (at t)) (drop (suc (at t)) cs))) (sym e)
-      ∙ ap (λ (k : ℕ). free_from (t - 1) k (drop k cs)) (sucs ∙ onward cs t l h),
+pub goes_on : (cs : List Call) (i : ℕ) → Left cs i → T (There cs i) → (r : Bool) → r ≡ free_of (get_or cs i unopened_call) → r ≡ false → Left cs (i + 1)
+goes_on cs i l h r e y = (
+  omega (arith, below cs i h),
+  turn cs i l h r e ∙ ap (λ (b : Bool). pick b (At i) (free_from (slots - (i + 1)) (suc i) (drop (suc i) cs))) y
+      ∙ ap (λ (k : ℕ). free_from (slots - (i + 1)) k (drop k cs)) sucs,
 )
   where
-    sucs : suc (at t) ≡ at t + 1
+    sucs : suc i ≡ i + 1
     sucs = omega arith
 
 ended : (k i : ℕ) (cs : List Call) → length cs ≤ i → free_from k i (drop i cs) ≡ Nowhere
 ended zero i cs h = refl
 ended (suc k) i cs h = ap (free_from (suc k) i) (drop_of_length-le cs h)
 
-pub nowhere : (cs : List Call) (t : ℕ) → Left cs t → T (not (There cs (at t))) → Nowhere ≡ lowest_free cs
-nowhere cs t l h = sym (l.1 ∙ past cs (at t) h none_left (ended t (at t) cs))
+pub nowhere : (cs : List Call) (i : ℕ) → Left cs i → T (not (There cs i)) → Nowhere ≡ lowest_free cs
+nowhere cs i l h = sym (l.1 ∙ past cs i h none_left (ended (slots - i) i cs))
   where
-    spent : slots ≤ at t → t ≡ 0
-    spent z = omega (arith, l.0, z)
-
-    none_left : slots ≤ at t → free_from t (at t) (drop (at t) cs) ≡ Nowhere
-    none_left z = ap (λ (k : ℕ). free_from k (at t) (drop (at t) cs)) (spent z)
+    none_left : slots ≤ i → free_from (slots - i) i (drop i cs) ≡ Nowhere
+    none_left z = let spent : slots - i ≡ 0 = omega arith in ap (λ (k : ℕ). free_from k i (drop i cs)) spent
 
 -- the number beside the answer
 number_from_lem : (k i : ℕ) (cs : List Call) → free_number (free_from k i cs) ≡ pick (some_free k cs) 0 21
