@@ -1,7 +1,7 @@
 -- DIFFERENT TELEPHONE NUMBERS HAVE DIFFERENT TEXT: nature, count and value can be read off the digits and the sign before them, in the
 -- listing and in the dump.
 -- Assumes nothing.
-use Rattle.std.proofs.Common.{◌≡◌, ℕ, ◌^◌, ◌<◌, ◌≤◌, Bool, true, false, ◌||◌, eqb, leb, ◌⊎◌, List, [], ◌∷◌, ◌++◌, length, sym, refl, ap, ◌∙◌, inl, inr, append_assoc, append-nil, arith, eq-eqb, eqb-true, leb-false, leb-true}
+use Rattle.std.proofs.Common.{◌≡◌, ℕ, ◌^◌, ◌<◌, ◌≤◌, Bool, true, false, eqb, leb, ◌⊎◌, List, [], ◌∷◌, ◌++◌, length, sym, refl, ap, ◌∙◌, inl, inr, append_assoc, append-nil, arith, eq-eqb, eqb-true, leb-false, leb-true}
 use mathlib.Core.List.{head-eq_of_cons-eq, tail-eq_of_cons-eq, append_cancel_left}
 use Rattle.text.specs.Choose.{if_eq, if_so}
 use Rattle.text.specs.Text.{ascii, last_digits, decimal_by, decimal, numbered}
@@ -9,7 +9,6 @@ use Rattle.text.specs.Value.{AllDigits, NoDigit, value_of}
 use Rattle.text.proofs.Cases.{yes_eq, no_eq, yes_so, no_so, both_eq}
 use Rattle.text.proofs.Decimal.{decimal_value, by_value, decimal_digits, by_digits, last_digits_lem, decimal_some}
 use Rattle.text.proofs.Ends.{digits_end, digits_length, digits_apart}
-use Rattle.rows.specs.Telephone.{national}
 use Rattle.rows.specs.Valid.{in_range, number_there}
 use Rattle.rows.specs.declared.Act.{Act}
 use Rattle.rows.specs.declared.Act.TheVariants.{Nothing, NotifyAccepted, AccessSetup, AccessAsk, AccessError, AccessRel, ChargeCalling}

@@ -1,6 +1,6 @@
 -- The count byte of a telephone number, both ways: what is written reads back, and what is read is what would be written.
 -- Assumes nothing.
-use Rattle.std.proofs.Common.{◌≡◌, ℕ, ◌+◌, ◌%◌, ◌^◌, ◌<◌, ◌≤◌, Bool, true, false, ◌&&◌, ◌||◌, T, eqb, ltb, leb, sym, refl, ap, ◌∙◌, arith, ltb-true, eqb-true, leb-true}
+use Rattle.std.proofs.Common.{◌≡◌, ℕ, ◌+◌, ◌%◌, ◌^◌, ◌<◌, ◌≤◌, Bool, true, false, ◌||◌, T, eqb, ltb, leb, sym, refl, ◌∙◌, arith, ltb-true, eqb-true, leb-true}
 use Rattle.text.proofs.Cases.{yes_lt, no_lt, both_lt}
 use Rattle.rows.specs.Telephone.{national}
 use Rattle.rows.specs.Valid.{pickℕ, in_range, number_there, number_absent}

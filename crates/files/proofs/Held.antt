@@ -1,7 +1,7 @@
 -- The row that a listing holds: an array with one call past the last slot, and one call apart, which may be newer than the array has it. What
 -- it stands for is the row of the definitions.
 -- Assumes nothing.
-use Rattle.std.proofs.Common.{◌≡◌, ℕ, ◌+◌, ◌<◌, ◌≤◌, Bool, ltb, List, [], ◌∷◌, ◌++◌, length, get_or, set, sym, refl, ap, ◌∙◌, subst, arith, length-append, length-set, get_or-set_same, set-set, le-ltb, lt-ltb}
+use Rattle.std.proofs.Common.{◌≡◌, ℕ, ◌<◌, ◌≤◌, Bool, ltb, List, [], ◌∷◌, ◌++◌, length, get_or, set, sym, refl, ap, ◌∙◌, subst, arith, length-append, length-set, get_or-set_same, set-set, le-ltb, lt-ltb}
 use lib.ListN.{get_or-append}
 use lib.Seq.{set-get_or, set-append_left, get_or-append_seam}
 use Rattle.text.proofs.Cases.{yes_lt, no_lt, both_lt}

@@ -101,7 +101,7 @@ no_nine = GivenBack.no_nine
 
 -- .. and no line of a record gives back a number but 0 to 7, 15 to 17, 19 and 20 (`on_a_line`).
 pub numbers_listed : (s : List ℕ) (k : ℕ) (x : Shown) → get_elem? (shown_of s) k ≡ some x → on_a_line x.answer.number ≡ true
-numbers_listed = GivenBack.numbers-listed
+numbers_listed = GivenBack.numbers_listed
 
 -- ---- 8 is never a length
 

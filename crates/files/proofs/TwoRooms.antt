@@ -1,10 +1,10 @@
 -- TWO ROOMS STAY TWO: numbers that are not the same, by nature, count or value, have different text in the listing and different bytes in a
 -- record. `same_number` is what the function for hosts says of them.
 -- Assumes nothing.
-use Rattle.std.proofs.Common.{◌≡◌, ℕ, Bool, true, false, ◌&&◌, ◌||◌, ◌↔◌, List, [], ◌∷◌, ◌++◌, sym, refl, ap, ◌∙◌, append-nil, arith}
+use Rattle.std.proofs.Common.{◌≡◌, ℕ, Bool, true, false, ◌&&◌, ◌||◌, ◌↔◌, List, [], ◌++◌, sym, refl, ap, ◌∙◌, append-nil, arith}
 use Rattle.rows.specs.Bill.{bit_at}
-use Rattle.rows.specs.Promises.{named_by, PassedOn}
-use Rattle.rows.specs.Step.{if_in_range, if_call, step_of}
+use Rattle.rows.specs.Promises.{named_by}
+use Rattle.rows.specs.Step.{if_call, step_of}
 use Rattle.rows.specs.Telephone.{absent, same_number}
 use Rattle.rows.specs.Valid.{in_range, number_there, event_ok, valid_of}
 use Rattle.rows.specs.declared.Act.{Act}

@@ -1,0 +1,13 @@
+use borrow.Author.Rules.{rules}
+use Rattle.std.proofs.Common.{rules}
+use Rattle.files.specs.Words.{digits_word}
+use Rattle.text.proofs.Laws.{puts}
+use Rattle.files.proofs.words.put_digits_word.Goals as goal
+
+pub returns-then-n-eq0-clause-put : goal.returns-then-n-eq0-clause-put
+unfolding digits_word
+returns-then-n-eq0-clause-put c = search (puts, rules)
+
+pub returns-clause-put : goal.returns-clause-put
+unfolding digits_word
+returns-clause-put c = search (puts, rules)

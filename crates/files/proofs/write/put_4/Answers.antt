@@ -1,0 +1,7 @@
+use borrow.Author.Rules.{rules}
+use Rattle.std.proofs.Common.{rules}
+use Rattle.files.proofs.Puts.{put_halves}
+use Rattle.files.proofs.write.put_4.Goals as goal
+
+pub returns-clause-put : goal.returns-clause-put
+returns-clause-put c = search (put_halves, rules)

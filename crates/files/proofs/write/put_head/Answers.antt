@@ -1,0 +1,7 @@
+use borrow.Author.Rules.{rules}
+use Rattle.std.proofs.Common.{rules}
+use Rattle.files.proofs.Puts.{head_as}
+use Rattle.files.proofs.write.put_head.Goals as goal
+
+pub returns-clause-put : goal.returns-clause-put
+returns-clause-put c = search (head_as, rules)
