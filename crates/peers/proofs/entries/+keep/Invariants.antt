@@ -1,0 +1,5 @@
+use Rattle.std.proofs.Common.{◌-◌, length}
+use Rattle.peers.proofs.entries.+keep.Given as goal
+
+abbrev pub decreases-keep : goal.decreases-keep
+decreases-keep l = length l.s.now - l.at

@@ -1,0 +1,9 @@
+use Rattle.std.proofs.Common.{arith}
+use Rattle.peers.proofs.Entered.{entry_room, entry_as}
+use Rattle.peers.proofs.entries.put_entry.Goals as goal
+
+pub put_message-n-requires : goal.put_message-n-requires
+put_message-n-requires c = entry_room _ _ c.args.at _ _ c.args.m (omega arith) c.put_2-to.ensures.put c.put_2-to.ensures.value
+
+pub returns : goal.returns
+returns c = entry_as _ _ _ _ _ _ _ _ c.put_2-to.ensures.put (omega arith) c.put_message-n.ensures
