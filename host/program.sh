@@ -13,8 +13,6 @@
 # The status is 0; or 2 where a file could not be read, an answer not be written, the program not be built or run. A file that the program
 # refuses has an answer, which says so, and the status is 0; or, of a single program, there is no answer and the status is 1.
 root=$(dirname "$(readlink -f "$0")")
-# shellcheck source=host/kit.sh
-. "$root/host/kit.sh"
 
 longest=65536 # bytes of an event file (docs/FORMAT.md)
 single='' made_by='' options='' takes='' means=''
@@ -41,7 +39,7 @@ run_program() {
     esac
     [ $# -gt 0 ] || set -- -
     [ -z "$single" ] || [ $# -eq 1 ] || stop "one file alone: $name --help says more"
-    program=$root/target/bin/$made_by
+    program=$root/crates/$made_by/out/$made_by
     room=$(mktemp -d 2>/dev/null) || stop "there is no room for temporary files"
     trap 'rm -rf "$room"' EXIT
     trap 'exit 129' HUP
@@ -83,11 +81,14 @@ version() {
     echo "for the Rattle kit $(cat "$root/KIT")"
 }
 
-# Proves and builds the program, crate by crate, so that there is a line before each, and what rt says of it as soon as it is proved.
+# Proves and builds the program, crate by crate, so that there is a line before each, and one as soon as it is proved. A library is built for
+# those above it; the program is run once, with no input, since that builds it.
 build() {
     command -v rt >/dev/null || stop "the program is not built yet, and the Rattle kit, whose command rt builds it, is not on the path"
-    mkdir -p "$root/target" 2>/dev/null
-    { [ -d "$root/target" ] && [ -w "$root/target" ]; } || stop "the program is built at its first run, and $root/target cannot be written"
+    [ "$(uname -m)" = x86_64 ] || stop "the program is for x86-64, and this machine is $(uname -m)"
+    out=${program%/*}
+    mkdir -p "$out" 2>/dev/null
+    { [ -d "$out" ] && [ -w "$out" ]; } || stop "the program is built at its first run, and $out cannot be written"
     crates=$(awk -F: -v name="$made_by" '
         $1 == name { rests = " " $2 " " }
         { order[++n] = $1 }
@@ -100,11 +101,19 @@ build() {
         count=$((count + 1))
         case $crate in rows | files | wire) long="some minutes" ;; *) long="some seconds" ;; esac
         say "proving $crate ($count of $#), $long"
-        if ! (cd "$root" && rt check "$crate") </dev/null >"$root/target/$name.log" 2>&1; then
-            cat "$root/target/$name.log" >&2
+        made=0
+        if [ "$crate" = "$made_by" ]; then
+            # its own status is that of an empty file
+            (cd "$root/crates/$crate" && rt run) </dev/null >"$room/log" 2>&1 || true
+            [ -x "$program" ] || made=1
+        else
+            (cd "$root/crates/$crate" && rt lib) </dev/null >"$room/log" 2>&1 || made=1
+        fi
+        if [ $made -ne 0 ]; then
+            cat "$room/log" >&2
             stop "$crate is not proved, or cannot be: rt says why, above"
         fi
-        grep "^rt: $crate " "$root/target/$name.log" >&2
+        say "$crate is proved"
     done
 }
 
@@ -132,10 +141,6 @@ answer() {
     fi
     # built only now, so that a file that is not there is told at once
     [ -x "$program" ] || build
-    if [ "$(uname -m)" != x86_64 ]; then
-        command -v rt >/dev/null || stop "the program is x86-64, and the Rattle kit, whose emulator runs it here, is not on the path"
-        find_toolchain || stop "the kit has no emulator for this machine"
-    fi
     if [ -n "$single" ]; then
         take_bytes
     else
@@ -146,7 +151,7 @@ answer() {
 # The answer, which is never empty. The status is that of cat, which sees whether all was written.
 take_text() {
     # shellcheck disable=SC2086 # an option a word
-    run_x86_64 "$program" $options <"$room/file" | cat >"$room/answer" || stop "temporary files cannot be written"
+    "$program" $options <"$room/file" | cat >"$room/answer" || stop "temporary files cannot be written"
     [ -s "$room/answer" ] || stop "$program gives no answer"
 }
 
@@ -154,7 +159,7 @@ take_text() {
 # say itself tells that it was not run to its end.
 take_bytes() {
     # shellcheck disable=SC2086 # an option a word
-    told=$({ { run_x86_64 "$program" $options <"$room/file" || echo "it ends with $?" >&2; } | cat >"$room/answer"; } 2>&1) ||
+    told=$({ { "$program" $options <"$room/file" || echo "it ends with $?" >&2; } | cat >"$room/answer"; } 2>&1) ||
         stop "temporary files cannot be written"
     case $told in
     '') return ;;

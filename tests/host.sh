@@ -3,13 +3,11 @@
 # C code that people copy, and the guard bytes of test.c at what the library does.
 set -eu
 cd "$(dirname "$0")/.."
-if [ "$(uname -m)" = x86_64 ]; then compiler=cc; else compiler=clang; fi
-if ! command -v $compiler >/dev/null; then
-    echo "host: skipped, there is no $compiler here"
+if ! command -v cc >/dev/null; then
+    echo "host: skipped, there is no cc here"
     exit 0
 fi
 sh host/c/build
-. host/kit.sh
 archive=target/staticlib/librev.a
 room=target/host
 functions='rev_dump rev_listing rev_read_parameter rev_same_number '
@@ -79,12 +77,12 @@ write_files() {
 
 # The host that writes: its file and its listing are those of case L, and what is wrong is said.
 check_writing() {
-    run_x86_64 "$hosts/write" $room/case-l.rev >$room/printed || fail "$hosts/write ended with $?"
+    "$hosts/write" $room/case-l.rev >$room/printed || fail "$hosts/write ended with $?"
     cmp -s $room/printed $room/case-l.txt || fail "$hosts/write does not print the listing of case L"
     written=$(od -An -v -tx1 $room/case-l.rev | tr -d ' \n')
     [ "$written" = "$(tr -d '\n' <$room/case-l.hex)" ] || fail "$hosts/write does not write the records of case L"
     for slot in 0 63; do # the same call on a board: each record is six bytes longer, and each line has the slot after the ordinal
-        run_x86_64 "$hosts/write" $room/in-slot.rev $slot >$room/printed || fail "$hosts/write ended with $?"
+        "$hosts/write" $room/in-slot.rev $slot >$room/printed || fail "$hosts/write ended with $?"
         awk -v slot=$slot '/^[0-9]/ { $1 = $1 " " slot } { print }' $room/case-l.txt >$room/in-slot.txt
         cmp -s $room/printed $room/in-slot.txt || fail "$hosts/write does not print the listing of case L in slot $slot"
         awk -v slot=$slot 'function byte(h) { return 16 * digit(h, 1) + digit(h, 2) }
@@ -102,7 +100,7 @@ check_writing() {
     done
     refuses 2 "$room: Is a directory" $room
     want=2 saying='standard output: ' status=0
-    run_x86_64 "$hosts/write" $room/case-l.rev >/dev/full 2>$room/said || status=$?
+    "$hosts/write" $room/case-l.rev >/dev/full 2>$room/said || status=$?
     check_said ">/dev/full"
     program=example
     echo "host: $hosts/write writes case L, plain and in a slot, and prints its listing"
@@ -112,7 +110,7 @@ check_writing() {
 prints() {
     text=$1
     shift
-    run_x86_64 "$hosts/example" "$@" >$room/printed || fail "$hosts/example $* ended with $?"
+    "$hosts/example" "$@" >$room/printed || fail "$hosts/example $* ended with $?"
     cmp -s $room/printed "$text" || fail "$hosts/example $* does not print what is in $text"
 }
 
@@ -121,7 +119,7 @@ refuses() {
     want=$1 saying=$2
     shift 2
     status=0
-    run_x86_64 "$hosts/$program" "$@" >$room/printed 2>$room/said || status=$?
+    "$hosts/$program" "$@" >$room/printed 2>$room/said || status=$?
     [ ! -s $room/printed ] || fail "$hosts/$program $* prints, and should not"
     check_said "$@"
 }
@@ -136,7 +134,7 @@ check_said() {
 check_hosts() {
     hosts=$1 program=example
     printf 'host: '
-    run_x86_64 "$hosts/test" examples/*.rev || fail "$hosts/test ended with $?"
+    "$hosts/test" examples/*.rev || fail "$hosts/test ended with $?"
     for file in examples/*.rev; do
         listing=${file%.rev}.txt
         length=$(wc -c <"$listing")
@@ -171,9 +169,8 @@ check_hosts() {
     want=2 saying='standard output: '
     for file in examples/room-pays.rev $room/most.rev; do # less than the C library keeps back, and more
         status=0
-        run_x86_64 "$hosts/example" "$file" >/dev/full 2>$room/said || status=$?
+        "$hosts/example" "$file" >/dev/full 2>$room/said || status=$?
         check_said "$file" ">/dev/full"
-        [ "$(uname -m)" = x86_64 ] || continue # a descriptor that is free is the emulator's to use
         status=0
         "$hosts/example" "$file" >&- 2>$room/said || status=$?
         check_said "$file" ">&-"
@@ -193,10 +190,6 @@ has_sanitizers() {
 check_archive
 write_files
 check_hosts $room
-if [ "$(uname -m)" != x86_64 ]; then
-    echo "host: another folder and the sanitizers are skipped: hosts are cross-built here"
-    exit 0
-fi
 check_copied
 if ! has_sanitizers; then
     echo "host: the sanitizers are skipped: cc has none that run here"

@@ -4,8 +4,6 @@
 # that.
 set -eu
 cd "$(dirname "$0")/.."
-# shellcheck source=host/kit.sh
-. host/kit.sh
 here=$PWD
 room=$(mktemp -d)
 trap 'rm -rf "$room"' EXIT
@@ -15,7 +13,7 @@ right=0 wrong=0
 
 # The program's own answer to a file.
 answer() {
-    run_x86_64 "target/bin/$program" <"$1"
+    "crates/$program/out/$program" <"$1"
 }
 
 # try WHAT STATUS TOLD COMMAND..: the command's status, what it tells on standard error (TOLD, one line or more, or nothing), and its
@@ -73,14 +71,13 @@ with_one() {
     try "standard output that nobody reads to its end" 0 "" sh -c "./$name '$file' | head -c 4"
     # a program that fails is none that refused, nor one that wrote what it has so far
     copy="$room/a broken copy"
-    mkdir -p "$copy/host" "$copy/target/bin"
+    broken=$copy/crates/$program/out/$program
+    mkdir -p "$copy/host" "${broken%/*}"
     cp "$name" "$copy"
     cp host/*.sh "$copy/host"
-    printf '#!/bin/sh\nprintf abc\nexit 3\n' >"$copy/target/bin/$program"
-    chmod +x "$copy/target/bin/$program"
-    if [ "$(uname -m)" = x86_64 ]; then
-        try "a program that fails" 2 "$name: $copy/target/bin/$program does not run: it ends with 3" "$copy/$name" "$file"
-    fi
+    printf '#!/bin/sh\nprintf abc\nexit 3\n' >"$broken"
+    chmod +x "$broken"
+    try "a program that fails" 2 "$name: $broken does not run: it ends with 3" "$copy/$name" "$file"
     rm -r "$copy"
 }
 
@@ -157,16 +154,20 @@ for name in listing dump record wire; do
     # The first run, with an rt that only says it: the crates in order, each announced; the program is there after the last.
     copy="$room/a fresh copy"
     mkdir -p "$copy/host/c"
+    for crate in $crates; do mkdir -p "$copy/crates/$crate"; done
     cp "$name" crates.txt KIT "$copy"
     cp host/*.sh "$copy/host"
     cp host/c/rev.h "$copy/host/c"
     cat >"$room/bin/rt" <<END
 #!/bin/sh
-[ "\$1" = check ] || exec $(command -v rt || echo false) "\$@"
-[ "\$2" != "\${REFUSE-}" ] || { echo "\$2: error" && exit 1; }
-echo "fn \$2::f: proved"
-echo "rt: \$2 proved (1 s)"
-[ "\$2" != $program ] || { mkdir -p target/bin && cp "$here/target/bin/$program" target/bin; }
+crate=\${PWD##*/}
+[ "\$crate" != "\${REFUSE-}" ] || { echo "\$crate: error" && exit 1; }
+echo "fn \$crate::f: proved"
+case "\$*" in
+lib) ;;
+run) mkdir -p out && cp "$here/crates/$program/out/$program" out && exit 1 ;;
+*) exec false ;;
+esac
 END
     chmod +x "$room/bin/rt"
     # what is told of the crates, up to the one that is refused, and of all
@@ -181,7 +182,7 @@ END
 $name: proving $crate ($count of $#), $long"
         [ "$crate" != $refuse ] || first=$steps
         steps="$steps
-rt: $crate proved (1 s)"
+$name: $crate is proved"
     done
     every=$steps
     try "a first run without the file" 2 "$name: none: no such file" env PATH="$room/bin:$PATH" "$copy/$name" none
@@ -195,9 +196,10 @@ $name: $refuse is not proved, or cannot be: rt says why, above" env PATH="$room/
     try "a first run" 0 "$every" env PATH="$room/bin:$PATH" "$copy/$name" "$file"
     answer "$file" >"$room/wanted"
     try "a second run" 0 "" env PATH="$room/bin:$PATH" "$copy/$name" "$file"
-    rm -r "$copy/target"
-    : >"$copy/target"
-    try "a first run where nothing can be written" 2 "$name: the program is built at its first run, and $copy/target cannot be written" \
+    rm -r "$copy/crates/$program/out"
+    : >"$copy/crates/$program/out"
+    try "a first run where nothing can be written" 2 \
+        "$name: the program is built at its first run, and $copy/crates/$program/out cannot be written" \
         env PATH="$room/bin:$PATH" "$copy/$name" "$file"
     rm -r "$copy" "$room/bin/rt"
 done

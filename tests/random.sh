@@ -21,12 +21,6 @@ cargo test --quiet --offline --manifest-path host/reference/Cargo.toml --target-
 }
 echo "random: the model passes its own tests"
 cargo build --quiet --release --offline --manifest-path host/reference/Cargo.toml --target-dir target/reference
-cat >target/host/serve <<'SERVE'
-#!/bin/sh
-. host/kit.sh
-run_x86_64 target/host/batch
-SERVE
-# plain C needs no archive of the kit: it is built for this machine
 cc -std=c11 -O2 -Wall -Wextra -DLISTING=plain_listing -o target/host/plain host/c/batch.c bench/plain.c
 
 # compare NAME COMMAND..: the listings of COMMAND with the model's
@@ -47,5 +41,5 @@ compare() {
     fi
     tail -n 1 target/host/random.log | sed "s/^/random: $name: /"
 }
-compare "the proved listing" sh target/host/serve
+compare "the proved listing" target/host/batch
 compare "the plain listing" target/host/plain

@@ -26,9 +26,8 @@ function code_of(line) { sub(/ *--.*/, "", line); return line }
 function trim(text) { sub(/^[ \t]+/, "", text); sub(/[ \t]+$/, "", text); return text }
 function bare(text) { gsub(/`/, "", text); return text }
 
-# WaitSetupConf is WAIT-SETUP-CONF; askSetup is ask_setup.
+# WaitSetupConf is WAIT-SETUP-CONF.
 function shown(name) { gsub(/[A-Z]/, "-&", name); sub(/^-/, "", name); return toupper(name) }
-function snake(name) { gsub(/[A-Z]/, "_&", name); return tolower(name) }
 
 # ---- A plan, computed from its line
 
@@ -75,8 +74,8 @@ function plan(text,   at, line, rounds) {
 function value(text) {
     text = trim(text)
     if (text in number) return number[text]
-    if (text == "t .error") return "error"
-    if (text == "t .cause") return "cause"
+    if (text == "t.error") return "error"
+    if (text == "t.cause") return "cause"
     return text
 }
 
@@ -99,7 +98,7 @@ function parts_words(text,   n, i, part, sum, out) {
     return out
 }
 
-# Outside ANSWERED nobody pays (specs/Valid.antt, payingOf), and so nothing is stopped.
+# Outside ANSWERED nobody pays (specs/Valid.antt, paying_of), and so nothing is stopped.
 function act_words(act, charged) {
     if (act == "Nothing") return ""
     if (act == "Stop") return charged ? "[STOP]" : ""
@@ -118,7 +117,7 @@ function answer_words(charged,   i, words, out) {
 }
 
 function follow_words(   out) {
-    if (!(argument[2] in stands_next)) wrong("specs/Perform.antt has no standOf " argument[2])
+    if (!(argument[2] in stands_next)) wrong("specs/Perform.antt has no stand_of " argument[2])
     out = stands_next[argument[2]]
     if (argument[3] in pays) out = out ", " pays[argument[3]]
     else if (argument[3] != "Keep") wrong("no words for " argument[3])
@@ -133,10 +132,10 @@ function condition_words(line, row,   n, i, part, from, out, key) {
     arguments(plan_line[row])
     for (i = 2; i <= n; i++) {
         from = argument[i - 1]
-        if (part[i] !~ /^[A-Z]/ || from !~ /^t \./) continue
-        key = substr(from, 4) SUBSEP part[i]
+        if (part[i] !~ /^[A-Z]/ || from !~ /^t\./) continue
+        key = substr(from, 3) SUBSEP part[i]
         if (key in condition) out = out "; " condition[key]
-        else wrong("no words for " part[i] " of " substr(from, 4))
+        else wrong("no words for " part[i] " of " substr(from, 3))
     }
     return out
 }
@@ -203,11 +202,11 @@ BEGIN {
 
 FNR == 1 { name = FILENAME; sub(/.*\//, "", name); above = ""; line = 0; inside = ""; pending = "" }
 
-name == "Numbers.antt" && /^[a-zA-Z]+ = [0-9]+$/ { number[$1] = $3; next }
+name == "Numbers.antt" && /^[a-z_]+ = [0-9]+$/ { number[$1] = $3; next }
 
-# standOf ToWaitAnswer now = at Setup WaitAnswer false false
-name == "Perform.antt" && /^standOf Stay / { stands_next["Stay"] = "the same"; next }
-name == "Perform.antt" && /^standOf [A-Z]/ {
+# stand_of ToWaitAnswer now = at Setup WaitAnswer false false
+name == "Perform.antt" && /^stand_of Stay / { stands_next["Stay"] = "the same"; next }
+name == "Perform.antt" && /^stand_of [A-Z]/ {
     stands_next[$2] = toupper($6) " " shown($7)
     agreed = $8 == "true" ? ", transfer agreed" : ", no transfer agreed"
     asked = $9 == "true" ? ", case B asked for" : ", case C asked for"
@@ -219,7 +218,7 @@ name == "Perform.antt" && /^standOf [A-Z]/ {
 # specs/Rows.antt: each alternative, with the comments above it and beside it
 name == "Rows.antt" && /^--/ { above = above " " comment_of($0); next }
 name == "Rows.antt" && (/^$/ || /^abbrev/) { above = ""; line = 0; next }
-name == "Rows.antt" && /^[a-z][a-zA-Z]* .*=|^[a-z][a-zA-Z]* =/ && !/^row / {
+name == "Rows.antt" && /^[a-z][a-z_]* .*=|^[a-z][a-z_]* =/ && !/^row / {
     line = ++lines
     left_of[line] = code_of($0); sub(/ =.*/, "", left_of[line])
     right_of[line] = code_of($0); sub(/^[^=]*= */, "", right_of[line])
@@ -227,7 +226,7 @@ name == "Rows.antt" && /^[a-z][a-zA-Z]* .*=|^[a-z][a-zA-Z]* =/ && !/^row / {
     above = ""
     heads[$1]++
     one_line[$1] = line
-    if ($1 == "planOf") { plan_at[$2] = line; plan_line[$2] = right_of[line] }
+    if ($1 == "plan_of") { plan_at[$2] = line; plan_line[$2] = right_of[line] }
     next
 }
 name == "Rows.antt" && line && /^ / { right_of[line] = right_of[line] " " trim(code_of($0)); next }
@@ -236,19 +235,19 @@ name == "Rows.antt" && line && /^ / { right_of[line] = right_of[line] " " trim(c
 name == "Find.antt" && /^-- (originating|destination|both roles|before)/ { place = substr($0, 4); next }
 name == "Find.antt" && /^abbrev pub .* : Kind / { place_of[$3] = place; table = $3; next }
 name == "Find.antt" && /^abbrev/ { table = ""; next }
-name == "Find.antt" && table != "" && /^[a-zA-Z]+Of [A-Z][a-z]+ e =/ {
+name == "Find.antt" && table != "" && /^[a-z_]+_of [A-Z][a-z]+ e =/ {
     now = $2
     if (!(now in kind)) wrong("specs/Find.antt has the kind " now)
 }
-name == "Find.antt" && table != "" && (/^ / || /^[a-zA-Z]+Of [A-Z][a-z]+ e =/) {
+name == "Find.antt" && table != "" && (/^ / || /^[a-z_]+_of [A-Z][a-z]+ e =/) {
     code = code_of($0)
-    sub(/^[a-zA-Z]+Of [A-Z][a-z]+ e =/, "", code)
+    sub(/^[a-z_]+_of [A-Z][a-z]+ e =/, "", code)
     test = ""
-    if (match(code, /\(e \.[a-z]+ \.[a-z]+\)/)) {
+    if (match(code, /[ (]e\.[a-z]+\.[a-z]+/)) {
         test = substr(code, RSTART, RLENGTH)
-        sub(/.* \./, "", test); sub(/\)/, "", test)
+        sub(/.*\./, "", test)
         code = substr(code, RSTART + RLENGTH)
-        if (code ~ /\(e \./) wrong("specs/Find.antt, " table " " now ": two alternatives on a line")
+        if (code ~ /[ (]e\./) wrong("specs/Find.antt, " table " " now ": two alternatives on a line")
     }
     row = ""
     n = split(code, part, /[ ()]+/)
@@ -277,7 +276,7 @@ name == "Find.antt" && table != "" && (/^ / || /^[a-zA-Z]+Of [A-Z][a-z]+ e =/) {
 }
 
 # specs/Tried.antt: the names of its theorems, and whether STOP is among what one says
-name == "Tried.antt" && /^[a-z][a-z-]* : / { theorem = $1; tried[theorem] = 0 }
+name == "Tried.antt" && /^[a-z][a-z_]* : / { theorem = $1; tried[theorem] = 0 }
 name == "Tried.antt" && /^$/ { theorem = "" }
 name == "Tried.antt" && theorem != "" && /does Stop/ { tried[theorem] = 1 }
 
@@ -318,7 +317,7 @@ name == "ROWS.md" && /^\| [GOD][0-9]+ \|/ {
     table_of[label] = part[2]; stand_of[label] = part[1]; role_of[label] = role
     next
 }
-# - G4 is found by `waitSetupOf`, .., on a line and those that go on with it
+# - G4 is found by `wait_setup_of`, .., on a line and those that go on with it
 name == "ROWS.md" && /^- G[0-9] is found by / { both = $2 }
 name == "ROWS.md" && !/^(- G|  )/ { both = "" }
 name == "ROWS.md" && both != "" {
@@ -416,8 +415,8 @@ function check_row(label,   n, i, j, line, hits, head, row, part, list, miss, ch
         if (!((label, list[i]) in found_word)) wrong("specs/Find.antt finds no " list[i] " for " label)
         if (in_enum[label, list[i]] != 1) wrong("src/lib.rt does not name " label " once at " list[i])
         if (in_code[label, list[i]] != 1) wrong("src/rows.rt does not name " label " once at Row::" list[i])
-        if (!(list[i] in plan_at)) { wrong("specs/Rows.antt has no planOf " list[i]); return }
-        if (says[label, plan_at[list[i]]] == "") wrong("specs/Rows.antt, planOf " list[i] " does not name " label)
+        if (!(list[i] in plan_at)) { wrong("specs/Rows.antt has no plan_of " list[i]); return }
+        if (says[label, plan_at[list[i]]] == "") wrong("specs/Rows.antt, plan_of " list[i] " does not name " label)
         is_word[label, list[i]] = 1
     }
     row = list[1]
@@ -428,15 +427,15 @@ function check_row(label,   n, i, j, line, hits, head, row, part, list, miss, ch
     for (i = 1; i <= lines; i++) if (index(left_of[i] " ", definition[label] " ") == 1) { hits++; line = i }
     if (hits != 1) { wrong("specs/Rows.antt has " hits + 0 " lines " definition[label] " for " label); return }
     if (says[label, line] == "") { wrong("specs/Rows.antt, " left_of[line] " does not name " label); return }
-    if (head == "planOf" ? part[2] != row : (arguments(plan_line[row]) < 0 || argument[0] != head))
-        wrong("specs/Rows.antt: planOf " row " is not " definition[label] ", as " label " has it")
+    if (head == "plan_of" ? part[2] != row : (arguments(plan_line[row]) < 0 || argument[0] != head))
+        wrong("specs/Rows.antt: plan_of " row " is not " definition[label] ", as " label " has it")
     if ((miss = within(sentence[label], says[label, line])) != "")
         wrong("docs/ROWS.md has \"" miss "\" in the sentence of " label ", specs/Rows.antt, " left_of[line] " not")
     for (name in place_of) if ((label, name) in finds && (miss = within(clauses_of(sentence[label]), find_text[label, name])) != "")
         wrong("specs/Find.antt has " label " without " miss)
 
     # its event and conditions, its answer, what follows
-    if (head == "planOf") key = event_of[label]
+    if (head == "plan_of") key = event_of[label]
     else key = event_of[label] condition_words(line, row)
     if (!plan(right_of[line])) { wrong("specs/Rows.antt, " left_of[line] ": no plan"); return }
     if (needed != "") key = key "; " needs_words[needed]
@@ -610,14 +609,14 @@ END {
     for (key in found_word) not_so("specs/Find.antt", key)
     for (key in in_enum) not_so("src/lib.rt", key)
     for (key in in_code) not_so("src/rows.rt", key)
-    for (row in variant) if (row != "NoRow" && !(row in plan_at)) wrong("specs/Rows.antt has no planOf " row)
+    for (row in variant) if (row != "NoRow" && !(row in plan_at)) wrong("specs/Rows.antt has no plan_of " row)
     for (i = 1; i <= lines; i++) {
         split(left_of[i], part, / /)
         head = part[1]
         n = split(trim(named[i]), list, / /)
         for (j = 1; j <= n; j++) {
             if (!(list[j] in is_row)) { wrong("specs/Rows.antt, " left_of[i] " names " list[j]); continue }
-            if (head == "planOf") {
+            if (head == "plan_of") {
                 if (!((list[j], part[2]) in is_word)) wrong("specs/Rows.antt, " left_of[i] " names " list[j] ", docs/ROWS.md not")
                 continue
             }
@@ -628,9 +627,9 @@ END {
     }
     # the arms of the code have the labels of the definition's lines, in their order
     for (head in in_definition) {
-        if (arms[snake(head)] != in_definition[head])
-            wrong("src/rows.rt, " snake(head) " has the labels" arms[snake(head)] ", specs/Rows.antt, " head in_definition[head])
-        known[snake(head)] = 1
+        if (arms[head] != in_definition[head])
+            wrong("src/rows.rt, " head " has the labels" arms[head] ", specs/Rows.antt, " head in_definition[head])
+        known[head] = 1
     }
     for (head in arms)
         if (head != "plan_of" && !(head in known)) wrong("src/rows.rt, " head " has the labels" arms[head] ", specs/Rows.antt none")

@@ -31,9 +31,9 @@ differ() {
     all=$((all + $(wc -l <"$room/written")))
 }
 all=0
-written '^phaseText ' $specs/Lines.antt >"$room/written" && column PHASE >"$room/has" && differ phase
+written '^phase_text ' $specs/Lines.antt >"$room/written" && column PHASE >"$room/has" && differ phase
 cp "$room/has" "$room/phases"
-written '^revText ' $specs/Lines.antt >"$room/written" && column STATE >"$room/has" && differ state
+written '^rev_text ' $specs/Lines.antt >"$room/written" && column STATE >"$room/has" && differ state
 cp "$room/has" "$room/states"
 cat $specs/Lines.antt $specs/Messages.antt >"$room/specs"
 written '"> ' "$room/specs" >"$room/written" && column Action >"$room/has" && differ action
@@ -48,7 +48,7 @@ differ "word of a message"
 {
     awk '/Numbers given back/ { inside = 1; next } /^--/ { inside = 0 } inside && / = [0-9]+$/ { print $3 }' \
         crates/rows/specs/Numbers.antt crates/board/specs/Numbers.antt
-    awk '/^(cutShort|badLength|unknownKind|tooLong) = / { print $3 }' $specs/Frames.antt $specs/Fit.antt
+    awk '/^(cut_short|bad_length|unknown_kind|too_long) = / { print $3 }' $specs/Frames.antt $specs/Fit.antt
 } | sort -u >"$room/written"
 column Number >"$room/has" && differ "number given back"
 cp "$room/has" "$room/numbers"

@@ -70,8 +70,7 @@ fn write(file: &[u8], out: &mut [u8]) -> usize
 }
 
 // The dump of a file in a buffer of any size: its length; or 8, and the buffer as it was.
-#[unsafe(no_mangle)]
-pub extern "C" fn rev_dump(file: &[u8], out: &mut [u8]) -> usize
+pub fn rev_dump(file: &[u8], out: &mut [u8]) -> usize
     ensures { (result ≡ answers file.now (dump_of file.now) out.old)
         × (out.new ≡ leaves file.now (dump_of file.now) out.old) }
 {

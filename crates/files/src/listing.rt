@@ -149,8 +149,7 @@ fn measure(file: &[u8], nothing: &mut [u8]) -> Listed
 }
 
 // The listing of a file in a buffer of any size: its length; or 8, and the buffer as it was.
-#[unsafe(no_mangle)]
-pub extern "C" fn rev_listing(file: &[u8], out: &mut [u8]) -> usize
+pub fn rev_listing(file: &[u8], out: &mut [u8]) -> usize
     ensures { (result ≡ answers file.now (listing_of file.now) out.old)
         × (out.new ≡ leaves file.now (listing_of file.now) out.old) }
 {

@@ -384,8 +384,7 @@ fn number_with(international: bool, count: u8, value: u64) -> Number
 }
 
 // Each kind for a host in C. What they give is the number and the ordinal; the length stands in the record's first two bytes.
-#[unsafe(no_mangle)]
-pub extern "C" fn rev_write_opening(
+pub fn rev_write_opening(
     role: u8,
     flags: u8,
     international: bool,
@@ -400,8 +399,7 @@ pub extern "C" fn rev_write_opening(
     gives_back(write_opening(role, flags, own, out))
 }
 
-#[unsafe(no_mangle)]
-pub extern "C" fn rev_write_request(
+pub fn rev_write_request(
     request: u8,
     international: bool,
     count: u8,
@@ -415,8 +413,7 @@ pub extern "C" fn rev_write_request(
     gives_back(write_ask(request, called, out))
 }
 
-#[unsafe(no_mangle)]
-pub extern "C" fn rev_write_message(
+pub fn rev_write_message(
     message: u8,
     cause: u8,
     component: u8,
@@ -457,23 +454,20 @@ pub extern "C" fn rev_write_message(
     gives_back(write_message(m, out))
 }
 
-#[unsafe(no_mangle)]
-pub extern "C" fn rev_write_access(told: u8, error: u8, out: &mut [u8]) -> u32
+pub fn rev_write_access(told: u8, error: u8, out: &mut [u8]) -> u32
     ensures { (result ≡ gives_back (written_of (FromAccess told error) out.old))
         × (out.new ≡ left_of (FromAccess told error) out.old) }
 {
     gives_back(write_access(told, error, out))
 }
 
-#[unsafe(no_mangle)]
-pub extern "C" fn rev_write_expiry(out: &mut [u8]) -> u32
+pub fn rev_write_expiry(out: &mut [u8]) -> u32
     ensures { (result ≡ gives_back (written_of Expiry out.old)) × (out.new ≡ left_of Expiry out.old) }
 {
     gives_back(write_expiry(out))
 }
 
-#[unsafe(no_mangle)]
-pub extern "C" fn rev_write_time(seconds: u32, out: &mut [u8]) -> u32
+pub fn rev_write_time(seconds: u32, out: &mut [u8]) -> u32
     ensures { (result ≡ gives_back (written_of (Time seconds) out.old))
         × (out.new ≡ left_of (Time seconds) out.old) }
 {
@@ -481,8 +475,7 @@ pub extern "C" fn rev_write_time(seconds: u32, out: &mut [u8]) -> u32
 }
 
 // A record of kind 7 around the plain record that a host in C hands over: 5, 6 or 7 if none can be read there, then 3 and 8 as of any event.
-#[unsafe(no_mangle)]
-pub extern "C" fn rev_write_slot(slot: u16, inner: &[u8], out: &mut [u8]) -> u32
+pub fn rev_write_slot(slot: u16, inner: &[u8], out: &mut [u8]) -> u32
     ensures { (result ≡ slot_gives (plain_at inner.now 0) slot out.old)
         × (out.new ≡ slot_leaves (plain_at inner.now 0) slot out.old) }
 {
@@ -494,8 +487,7 @@ pub extern "C" fn rev_write_slot(slot: u16, inner: &[u8], out: &mut [u8]) -> u32
 }
 
 // Whether two telephone numbers are the same.
-#[unsafe(no_mangle)]
-pub extern "C" fn rev_same_number(
+pub fn rev_same_number(
     international: bool,
     count: u8,
     value: u64,

@@ -40,13 +40,7 @@ fn read_components(parameter: &[u8], message: u8, cause: u8, out: &mut [u8]) -> 
 }
 
 // The events of a parameter, in a message of this kind and cause: an entry for each component; one with component 0 where it has none.
-#[unsafe(no_mangle)]
-pub extern "C" fn rev_read_parameter(
-    parameter: &[u8],
-    message: u8,
-    cause: u8,
-    out: &mut [u8],
-) -> u32
+pub fn rev_read_parameter(parameter: &[u8], message: u8, cause: u8, out: &mut [u8]) -> u32
     ensures { (result ≡ read_gives message cause (parameter_of parameter.now) out.old)
         × (out.new ≡ read_leaves message cause (parameter_of parameter.now) out.old) }
 {
@@ -130,8 +124,7 @@ fn write_event(e: Event, id: u16, out: &mut [u8]) -> u32
 }
 
 // The parameter of an entry, which is an identifier and a record of kind 3. What follows the record is not looked at.
-#[unsafe(no_mangle)]
-pub extern "C" fn rev_write_parameter(entry: &[u8], out: &mut [u8]) -> u32
+pub fn rev_write_parameter(entry: &[u8], out: &mut [u8]) -> u32
     ensures { (result ≡ write_gives (record_at entry.now) (identifier_at entry.now) out.old)
         × (out.new ≡ write_leaves (record_at entry.now) (identifier_at entry.now) out.old) }
 {
