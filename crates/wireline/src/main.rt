@@ -145,8 +145,7 @@ fn answer_hex(rt: &(impl Env + Print + Eprint), text: &[u8]) -> io::Result<()> {
     let mut bytes = bytes_room();
     let h = hex::octets(text, &mut bytes);
     match h {
-        Hexed::Bad => eprintln!(
-            rt;
+        Hexed::Bad => eprintln!(rt;
             "wire: not hexadecimal: not two digits an octet, with blanks and line ends"
         ),
         Hexed::Octets(n) => answer_octets(rt, &bytes, n),
