@@ -1,7 +1,7 @@
 // Writes a dump of the event file on standard input, or `REFUSED 8`.
 #![tactic(auto)]
 
-use libc::{STDIN_FILENO, STDOUT_FILENO};
+use std::io;
 
 // Room for the dump of every file. A message of 9 bytes has the most text for its bytes: 93, with an ordinal of five digits; a slot is 6
 // bytes more and at most 11 of text. So the lines of 65,536 bytes have at most 65,536 / 9 * 93 = 677,206; the first line, and one of a
@@ -11,15 +11,14 @@ fn room() -> [u8; 1048576] {
     [0u8; 1048576]
 }
 
-fn main() {
+fn main(rt: HostRuntime) -> io::Result<()> {
     // one byte more than a file may have, so that a longer input is noticed
     let mut input = [0u8; 65537];
-    let n = io::read_full(STDIN_FILENO, &mut input);
+    let n = intake::read_full(&mut rt.reader(), &mut input)?;
     let mut out = room();
     let k = files::rev_dump(&input[..n], &mut out);
     if k == 8 {
-        io::write_all(STDOUT_FILENO, b"REFUSED 8\n");
-        return;
+        return rt.write_all(b"REFUSED 8\n");
     }
-    io::write_all(STDOUT_FILENO, &out[..k]);
+    rt.write_all(&out[..k])
 }

@@ -1,17 +1,16 @@
 // Writes the listing of the event file on standard input, or `REFUSED 8`.
 #![tactic(auto)]
 
-use libc::{STDIN_FILENO, STDOUT_FILENO};
+use std::io;
 
-fn main() {
+fn main(rt: HostRuntime) -> io::Result<()> {
     // one byte more than a file may have, so that a longer input is noticed
     let mut input = [0u8; 65537];
-    let n = io::read_full(STDIN_FILENO, &mut input);
+    let n = intake::read_full(&mut rt.reader(), &mut input)?;
     let mut out = [0u8; 65536];
     let k = files::rev_listing(&input[..n], &mut out);
     if k == 8 {
-        io::write_all(STDOUT_FILENO, b"REFUSED 8\n");
-        return;
+        return rt.write_all(b"REFUSED 8\n");
     }
-    io::write_all(STDOUT_FILENO, &out[..k]);
+    rt.write_all(&out[..k])
 }

@@ -8,8 +8,8 @@ mod pieces;
 
 use crate::lines::{BAD_FIELD, DONE, RETURN, UNKNOWN};
 use files::Where;
-use libc::{STDERR_FILENO, STDIN_FILENO, STDOUT_FILENO};
 use rows::Event;
+use std::io;
 
 // What the words of a line say: no event; or this one, plain or at a slot.
 #[derive(Clone, Copy)]
@@ -29,62 +29,46 @@ fn file_room() -> [u8; 65536] {
     [0u8; 65536]
 }
 
-fn tell_number(n: u32) {
-    let mut digits = [0u8; 10];
-    let k = text::put_dec(&mut digits, 0, n);
-    io::write_all(STDERR_FILENO, &digits[..k]);
+fn tell_number(rt: &impl Eprint, n: u32) -> io::Result<()> {
+    eprint!(rt; "{n}")
 }
 
-fn tell_field(field: u8) {
-    io::write_all(STDERR_FILENO, b": REFUSED 3: field ");
-    tell_number(field as u32);
-    io::write_all(STDERR_FILENO, b" is out of its range\n");
+fn tell_field(rt: &impl Eprint, field: u8) -> io::Result<()> {
+    eprint!(rt; ": REFUSED 3: field ")?;
+    tell_number(rt, field as u32)?;
+    eprintln!(rt; " is out of its range")
 }
 
-fn tell_why(number: u8, field: u8) {
+fn tell_why(rt: &impl Eprint, number: u8, field: u8) -> io::Result<()> {
     if number == UNKNOWN {
-        io::write_all(STDERR_FILENO, b": not known: no record has these words\n");
-        return;
+        return eprintln!(rt; ": not known: no record has these words");
     }
     if number == RETURN {
-        io::write_all(
-            STDERR_FILENO,
-            b": not known: it ends in a carriage return\n",
-        );
-        return;
+        return eprintln!(rt; ": not known: it ends in a carriage return");
     }
     if number == BAD_FIELD {
-        tell_field(field);
-        return;
+        return tell_field(rt, field);
     }
-    io::write_all(
-        STDERR_FILENO,
-        b": REFUSED 8: the file would have more than 65,536 bytes\n",
-    );
+    eprintln!(rt; ": REFUSED 8: the file would have more than 65,536 bytes")
 }
 
-fn tell(line: u32, number: u8, field: u8) {
-    io::write_all(STDERR_FILENO, b"record: line ");
-    tell_number(line);
-    tell_why(number, field);
+fn tell(rt: &impl Eprint, line: u32, number: u8, field: u8) -> io::Result<()> {
+    eprint!(rt; "record: line ")?;
+    tell_number(rt, line)?;
+    tell_why(rt, number, field)
 }
 
-fn main() {
+fn main(rt: HostRuntime) -> io::Result<()> {
     let mut input = text_room();
-    let n = io::read_full(STDIN_FILENO, &mut input);
+    let n = intake::read_full(&mut rt.reader(), &mut input)?;
     if n == input.len() {
-        io::write_all(
-            STDERR_FILENO,
-            b"record: REFUSED 8: the text has more than 1,048,576 bytes\n",
-        );
-        return;
+        return eprintln!(rt; "record: REFUSED 8: the text has more than 1,048,576 bytes");
     }
     let mut out = file_room();
     let done = lines::record(&input[..n], &mut out);
     let to = done.to;
     if done.number == DONE {
-        io::write_all(STDOUT_FILENO, &out[..to]);
-        return;
+        return rt.write_all(&out[..to]);
     }
-    tell(done.line, done.number, done.field);
+    tell(&rt, done.line, done.number, done.field)
 }

@@ -12,7 +12,9 @@ mod lines;
 mod pieces;
 
 use crate::guess::same;
-use libc::{STDERR_FILENO, STDIN_FILENO, STDOUT_FILENO};
+use std::env::FillError;
+use std::io;
+use std::rt::Env;
 use wire::{Component, Written};
 
 // What a text of hexadecimal digits says: it is none; or so many octets.
@@ -61,165 +63,150 @@ fn answer_room() -> [u8; 16384] {
     [0u8; 16384]
 }
 
-// Whether an argument is the word.
-fn argument_is(i: usize, name: &[u8]) -> bool {
+// Whether an argument is the word; nothing, where there is no such argument. One that is too long for the buffer is no option.
+fn argument_is(rt: &impl Env, i: usize, name: &[u8]) -> Option<bool> {
     let mut word = [0u8; 8];
-    let n = os::arg(i, &mut word);
-    same(&word[..n], name)
+    match rt.arg(i, &mut word) {
+        Ok(n) => Some(same(&word[..n], name)),
+        Err(FillError::TooLong) => Some(false),
+        Err(FillError::NotPresent) => None,
+    }
 }
 
 // The place of an option among the arguments, or 0.
-fn option(name: &[u8]) -> usize
+fn option(rt: &impl Env, name: &[u8]) -> usize
     ensures { result + 1 < 2 ^ 64 }
 {
-    let count = os::arg_count();
-    let mut i = 1;
-    while i < count {
-        if argument_is(i, name) {
-            return i;
+    for i in 1..usize::MAX {
+        match argument_is(rt, i, name) {
+            Some(true) => return i,
+            Some(false) => {}
+            None => return 0,
         }
-        i += 1;
     }
     0
 }
 
 // An argument that is a number.
-fn argument(i: usize) -> u64 {
+fn argument(rt: &impl Env, i: usize) -> u64 {
     let mut word = [0u8; 8];
-    let n = os::arg(i, &mut word);
+    let n = rt.arg(i, &mut word).unwrap_or(0);
     pieces::value(&word[..n])
 }
 
-fn too_long() {
-    io::write_all(STDOUT_FILENO, b"REFUSED 8\n");
+fn too_long(rt: &impl Print) -> io::Result<()> {
+    rt.write_all(b"REFUSED 8\n")
 }
 
 // An answer of n bytes. One that did not fit would be too long, but none is.
-fn tell(out: &[u8], n: usize) {
+fn tell(rt: &impl Print, out: &[u8], n: usize) -> io::Result<()> {
     if n <= out.len() {
-        io::write_all(STDOUT_FILENO, &out[..n]);
-        return;
+        return rt.write_all(&out[..n]);
     }
-    too_long();
+    too_long(rt)
 }
 
-fn tell_component(s: &[u8]) {
+fn tell_component(rt: &impl Print, s: &[u8]) -> io::Result<()> {
     let mut out = answer_room();
     let n = answers::put_component(&mut out, s);
-    tell(&out, n);
+    tell(rt, &out, n)
 }
 
-fn tell_parameter(s: &[u8])
+fn tell_parameter(rt: &impl Print, s: &[u8]) -> io::Result<()>
     requires { length s.now ≤ 65536 }
 {
     let mut out = answer_room();
     let n = answers::put_parameter(&mut out, s);
-    tell(&out, n);
+    tell(rt, &out, n)
 }
 
-fn answer(s: &[u8]) {
+fn answer(rt: &(impl Env + Print), s: &[u8]) -> io::Result<()> {
     if LONGEST < s.len() {
-        too_long();
-        return;
+        return too_long(rt);
     }
-    if option(b"-c") != 0 {
-        tell_component(s);
-        return;
+    if option(rt, b"-c") != 0 {
+        return tell_component(rt, s);
     }
-    tell_parameter(s);
+    tell_parameter(rt, s)
 }
 
 // So many octets of a text are in the buffer, as far as it goes.
-fn answer_octets(bytes: &[u8], n: usize) {
+fn answer_octets(rt: &(impl Env + Print), bytes: &[u8], n: usize) -> io::Result<()> {
     if bytes.len() < n {
-        too_long();
-        return;
+        return too_long(rt);
     }
-    answer(&bytes[..n]);
+    answer(rt, &bytes[..n])
 }
 
-fn answer_hex(text: &[u8]) {
+fn answer_hex(rt: &(impl Env + Print + Eprint), text: &[u8]) -> io::Result<()> {
     if LONGEST_TEXT < text.len() {
-        too_long();
-        return;
+        return too_long(rt);
     }
     let mut bytes = bytes_room();
     let h = hex::octets(text, &mut bytes);
     match h {
-        Hexed::Bad => {
-            io::write_all(
-                STDERR_FILENO,
-                b"wire: not hexadecimal: not two digits an octet, with blanks and line ends\n",
-            );
-        }
-        Hexed::Octets(n) => answer_octets(&bytes, n),
+        Hexed::Bad => eprintln!(rt;
+            "wire: not hexadecimal: not two digits an octet, with blanks and line ends"
+        ),
+        Hexed::Octets(n) => answer_octets(rt, &bytes, n),
     }
 }
 
-fn read() {
+fn read(rt: &(impl Env + Input + Print + Eprint)) -> io::Result<()> {
     let mut text = text_room();
-    let n = io::read_full(STDIN_FILENO, &mut text);
-    if option(b"-x") != 0 {
-        answer_hex(&text[..n]);
-        return;
+    let n = intake::read_full(&mut rt.reader(), &mut text)?;
+    if option(rt, b"-x") != 0 {
+        return answer_hex(rt, &text[..n]);
     }
-    answer(&text[..n]);
+    answer(rt, &text[..n])
 }
 
 // A component's bytes.
-fn tell_bytes(s: &[u8])
+fn tell_bytes(rt: &(impl Env + Print), s: &[u8]) -> io::Result<()>
     requires { length s.now ≤ 65536 }
 {
-    if option(b"-x") == 0 {
-        io::write_all(STDOUT_FILENO, s);
-        return;
+    if option(rt, b"-x") == 0 {
+        return rt.write_all(s);
     }
     let mut out = answer_room();
     let n = hex::put_hex(&mut out, s);
-    tell(&out, n);
+    tell(rt, &out, n)
 }
 
-fn tell_refused(number: u8) {
+fn tell_refused(rt: &impl Print, number: u8) -> io::Result<()> {
     if number == 3 {
-        io::write_all(STDOUT_FILENO, b"REFUSED 3\n");
-        return;
+        return rt.write_all(b"REFUSED 3\n");
     }
-    too_long();
+    too_long(rt)
 }
 
 // So many bytes of a room. More than it has would be too many, but never are.
-fn tell_front(out: &[u8], n: usize)
+fn tell_front(rt: &(impl Env + Print), out: &[u8], n: usize) -> io::Result<()>
     requires { length out.now ≤ 65536 }
 {
     if out.len() < n {
-        too_long();
-        return;
+        return too_long(rt);
     }
-    tell_bytes(&out[..n]);
+    tell_bytes(rt, &out[..n])
 }
 
-fn tell_written(out: &[u8], w: Written)
+fn tell_written(rt: &(impl Env + Print), out: &[u8], w: Written) -> io::Result<()>
     requires { length out.now ≤ 65536 }
 {
     match w {
-        Written::Refused(n, _) => tell_refused(n),
-        Written::Done(n) => tell_front(out, n),
+        Written::Refused(n, _) => tell_refused(rt, n),
+        Written::Done(n) => tell_front(rt, out, n),
     }
 }
 
 // The component that a line says, written into a room.
-fn write_in(line: &[u8], out: &mut [u8])
+fn write_in(rt: &(impl Env + Print + Eprint), line: &[u8], out: &mut [u8]) -> io::Result<()>
     requires { length out.old ≤ 65536 }
 {
     let done = guess::write(line, out);
     match done {
-        Done::Unknown => {
-            io::write_all(
-                STDERR_FILENO,
-                b"wire: not understood: no component has this line\n",
-            );
-        }
-        Done::Known(w) => tell_written(out, w),
+        Done::Unknown => eprintln!(rt; "wire: not understood: no component has this line"),
+        Done::Known(w) => tell_written(rt, out, w),
     }
 }
 
@@ -236,28 +223,31 @@ fn line_of(text: &[u8]) -> &[u8] {
 }
 
 // A line, written into a room of so many bytes of a buffer.
-fn write_room(line: &[u8], out: &mut [u8], to: usize)
+fn write_room(
+    rt: &(impl Env + Print + Eprint),
+    line: &[u8],
+    out: &mut [u8],
+    to: usize,
+) -> io::Result<()>
     requires { length out.old ≤ 65536 }
 {
     if out.len() < to {
-        io::write_all(STDERR_FILENO, b"wire: a room has at most 65,535 bytes\n");
-        return;
+        return eprintln!(rt; "wire: a room has at most 65,535 bytes");
     }
-    write_in(line, &mut out[..to]);
+    write_in(rt, line, &mut out[..to])
 }
 
-fn write(room: u64) {
+fn write(rt: &(impl Env + Input + Print + Eprint), room: u64) -> io::Result<()> {
     let mut text = answer_room();
-    let n = io::read_full(STDIN_FILENO, &mut text);
+    let n = intake::read_full(&mut rt.reader(), &mut text)?;
     let mut out = component_room();
-    write_room(line_of(&text[..n]), &mut out, room as usize);
+    write_room(rt, line_of(&text[..n]), &mut out, room as usize)
 }
 
-fn main() {
-    let w = option(b"-w");
+fn main(rt: HostRuntime) -> io::Result<()> {
+    let w = option(&rt, b"-w");
     if w == 0 {
-        read();
-        return;
+        return read(&rt);
     }
-    write(argument(w + 1));
+    write(&rt, argument(&rt, w + 1))
 }

@@ -1,0 +1,18 @@
+use Rattle.std.proofs.Common.{rules}
+use Rattle.wireline.proofs.Told.{several_held, said_refused, said_none, said_one, said_several}
+use Rattle.wireline.proofs.answers.put_parameter.Goals as goal
+
+pub put_each-requires : goal.put_each-requires
+put_each-requires c = (search (several_held), search rules)
+
+pub returns-in-Refused : goal.returns-in-Refused
+returns-in-Refused c = search (said_refused)
+
+pub returns-in-Empty : goal.returns-in-Empty
+returns-in-Empty c = search (said_none)
+
+pub returns-in-One : goal.returns-in-One
+returns-in-One c = search (said_one)
+
+pub returns-in-Several : goal.returns-in-Several
+returns-in-Several c = search (said_several)

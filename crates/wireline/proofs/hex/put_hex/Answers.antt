@@ -1,0 +1,9 @@
+use Rattle.std.proofs.Common.{rules}
+use Rattle.wireline.proofs.Octets.{writing_on, writing_done}
+use Rattle.wireline.proofs.hex.put_hex.Goals as goal
+
+pub loop-i-preserved : goal.loop-i-preserved
+loop-i-preserved c = (search rules, search rules, search rules, search (writing_on))
+
+pub returns : goal.returns
+returns c = search (writing_done)

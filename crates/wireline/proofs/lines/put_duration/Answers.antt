@@ -1,0 +1,12 @@
+use Rattle.wire.specs.Texts.{text_if}
+use Rattle.wireline.specs.Lines.{duration_text}
+use Rattle.text.proofs.Laws.{puts}
+use Rattle.wireline.proofs.lines.put_duration.Goals as goal
+
+pub returns-then-present-eq1-clause-put : goal.returns-then-present-eq1-clause-put
+unfolding duration_text text_if
+returns-then-present-eq1-clause-put c = search puts
+
+pub returns-clause-put : goal.returns-clause-put
+unfolding duration_text text_if
+returns-clause-put c = search puts
