@@ -2,6 +2,8 @@
 // message on standard error, and nothing is written.
 #![tactic(auto)]
 
+ghost use Rattle.std.specs.Prelude.{◌≤◌, length, IfOk};
+
 mod guess;
 mod lines;
 mod pieces;
@@ -10,6 +12,7 @@ use crate::lines::{BAD_FIELD, DONE, RETURN, UNKNOWN};
 use files::Where;
 use rows::Event;
 use std::io;
+use std::io::Read;
 
 // What the words of a line say: no event; or this one, plain or at a slot.
 #[derive(Clone, Copy)]
@@ -58,9 +61,19 @@ fn tell(rt: &impl Eprint, line: u32, number: u8, field: u8) -> io::Result<()> {
     tell_why(rt, number, field)
 }
 
+// Standard input, as far as the buffer has room for it: how many bytes there are at its start.
+fn fill(rt: &impl Input, buffer: &mut [u8]) -> io::Result<usize>
+    ensures { IfOk result (λ n. n ≤ length buffer.new) }
+{
+    let room = buffer.len();
+    let mut rest = buffer;
+    let n = io::copy(&mut rt.reader().take(room as u64), &mut rest)?;
+    Ok(room.min(n as usize))
+}
+
 fn main(rt: HostRuntime) -> io::Result<()> {
     let mut input = text_room();
-    let n = intake::read_full(&mut rt.reader(), &mut input)?;
+    let n = fill(&rt, &mut input)?;
     if n == input.len() {
         return eprintln!(rt; "record: REFUSED 8: the text has more than 1,048,576 bytes");
     }

@@ -3,7 +3,7 @@
 // hexadecimal text. An input that is no such text, or no such line, has a message on standard error, and nothing is written.
 #![tactic(auto)]
 
-ghost use Rattle.std.specs.Prelude.{◌+◌, ◌^◌, ◌<◌, ◌≤◌, length};
+ghost use Rattle.std.specs.Prelude.{◌+◌, ◌^◌, ◌<◌, ◌≤◌, length, IfOk};
 
 mod answers;
 mod guess;
@@ -14,6 +14,7 @@ mod pieces;
 use crate::guess::same;
 use std::env::FillError;
 use std::io;
+use std::io::Read;
 use std::rt::Env;
 use wire::{Component, Written};
 
@@ -61,6 +62,16 @@ fn component_room() -> [u8; 65535] {
 // Room for every answer: a parameter has at most 36 components, and a line at most 354 bytes.
 fn answer_room() -> [u8; 16384] {
     [0u8; 16384]
+}
+
+// Standard input, as far as the buffer has room for it: how many bytes there are at its start.
+fn fill(rt: &impl Input, buffer: &mut [u8]) -> io::Result<usize>
+    ensures { IfOk result (λ n. n ≤ length buffer.new) }
+{
+    let room = buffer.len();
+    let mut rest = buffer;
+    let n = io::copy(&mut rt.reader().take(room as u64), &mut rest)?;
+    Ok(room.min(n as usize))
 }
 
 // Whether an argument is the word; nothing, where there is no such argument. One that is too long for the buffer is no option.
@@ -154,7 +165,7 @@ fn answer_hex(rt: &(impl Env + Print + Eprint), text: &[u8]) -> io::Result<()> {
 
 fn read(rt: &(impl Env + Input + Print + Eprint)) -> io::Result<()> {
     let mut text = text_room();
-    let n = intake::read_full(&mut rt.reader(), &mut text)?;
+    let n = fill(rt, &mut text)?;
     if option(rt, b"-x") != 0 {
         return answer_hex(rt, &text[..n]);
     }
@@ -239,7 +250,7 @@ fn write_room(
 
 fn write(rt: &(impl Env + Input + Print + Eprint), room: u64) -> io::Result<()> {
     let mut text = answer_room();
-    let n = intake::read_full(&mut rt.reader(), &mut text)?;
+    let n = fill(rt, &mut text)?;
     let mut out = component_room();
     write_room(rt, line_of(&text[..n]), &mut out, room as usize)
 }
