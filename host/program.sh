@@ -8,8 +8,8 @@
 # name, or options, sets made_by, the name of the program's crate; and options, the options for the program, takes, how the help has these,
 # and means, the help's lines on them.
 #
-# A program of the kit has no exit status, and does not tell that it could not read or write. So the script reads the file, keeps the
-# program's answer and copies it to standard output: each of these is seen to fail, and told on standard error.
+# No contract of a program says what it read or wrote. So the script reads the file, keeps the program's answer and copies it to standard
+# output: each of these is seen to fail, and told on standard error.
 # The status is 0; or 2 where a file could not be read, an answer not be written, the program not be built or run. A file that the program
 # refuses has an answer, which says so, and the status is 0; or, of a single program, there is no answer and the status is 1.
 root=$(dirname "$(readlink -f "$0")")

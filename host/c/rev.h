@@ -99,7 +99,8 @@ extern "C" {
  * They keep nothing between calls, allocate nothing and call nothing: any number of threads may call them at once, each with its own
  * `out`. The same file may be lent to all. Of stack they take 7 KiB at most (measured): the listing's row of calls.
  *
- * The promise is proved of crates/files/src/listing.rt and dump.rt. That these declarations fit them is tested (test.c) and not proved.
+ * The promise is proved of crates/files/src/listing.rt and dump.rt, and of crates/rev/src/lib.rt, whose functions these are and which calls
+ * those. That these declarations fit them is tested (test.c) and not proved.
  */
 size_t rev_listing(const uint8_t *file, size_t file_len, uint8_t *out, size_t out_len) REV_NOT_NULL;
 size_t rev_dump(const uint8_t *file, size_t file_len, uint8_t *out, size_t out_len) REV_NOT_NULL;

@@ -1,4 +1,4 @@
--- Any two results that a contract of `board` allows are the same: a law for each form that is not `out ≡ definition arguments`.
+-- Any two results that a contract of `board` allows are the same: a law for each form that is not `result ≡ definition arguments`.
 -- Assumes nothing.
 use mathlib.Core.Path.{◌≡◌, refl, sym, ap, ◌∙◌}
 use mathlib.Core.List.{List}

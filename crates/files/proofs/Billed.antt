@@ -1,7 +1,7 @@
 -- From the bytes of a file to the bill (demand 3), for a host that calls `rev_listing`:
 --
---   host-gets     its first n bytes are a header, the text of each record shown, and END with their count;
---   billed-line   the k-th record shown is the answer to the k-th entry at its slot, and its meters are what each payer owes on the bill of
+--   host_gets     its first n bytes are a header, the text of each record shown, and END with their count;
+--   billed_line   the k-th record shown is the answer to the k-th entry at its slot, and its meters are what each payer owes on the bill of
 --                 that slot's own events since its latest accepted opening: so for an originating call its text is written from the bill.
 --
 -- What a file holds and shows is defined in specs/Shown.antt, the bill in crates/rows/specs/Bill.antt.

@@ -6,7 +6,7 @@ use mathlib.Core.List.{List}
 use Prim.Native.Nat.{ℕ}
 use Rattle.text.specs.Text.{Put}
 
--- `out ≡ definition arguments`: all functions of `meters` and `rows`, and every reader of `text` and `files`. Two results that both equal
+-- `result ≡ definition arguments`: all functions of `meters` and `rows`, and every reader of `text` and `files`. Two results that both equal
 -- the definition are equal.
 pub same : {A : Type 0} {defined out out' : A} → out ≡ defined → out' ≡ defined → out ≡ out'
 same e f = e ∙ sym f

@@ -1,5 +1,5 @@
 -- The usual form of a component: every length in one byte, and no element but the module's own, each in its place. Whatever is found to
--- have it is what the grammar reads there (Said-as, Read-as; of a head, headOf itself); nothing is said of what is found to have another form.
+-- have it is what the grammar reads there (SaidAs, ReadAs; of a head, head_of itself); nothing is said of what is found to have another form.
 -- Assumes nothing.
 use Rattle.std.specs.Prelude.{◌≡◌, List, ℕ, ◌+◌, ◌-◌, ◌%◌, length}
 use Rattle.text.specs.Choose.{if_lt, if_eq}
