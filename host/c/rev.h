@@ -1,7 +1,8 @@
 /*
  * The listing and the dump of an event file, writers of its records, whether two telephone numbers are the same, and a reader and a writer
  * of the ISUP Remote operations parameter, for a host written in C or C++ on x86-64. Link with librev.a, which host/c/build makes and which
- * needs nothing else. docs/FORMAT.md has the file, the listing and the dump; docs/WIRE.md has the parameter.
+ * needs nothing else. docs/FORMAT.md has the file, the listing and the dump; docs/WIRE.md has the parameter. What is promised below is
+ * proved of a function of crates/files or crates/peers, and once more of the one in crates/rev/src/lib.rt that is exported and calls it.
  */
 #ifndef REV_H
 #define REV_H
