@@ -1,3 +1,4 @@
+-- The loop keeps what `Dumped` says, and the measure is what is left of the file.
 use Rattle.std.proofs.Common.{◌-◌, length}
 use Rattle.files.proofs.Turns.{Dumped}
 use Rattle.files.proofs.dump.write.Given as goal

@@ -1,3 +1,4 @@
+-- The loop keeps what `Listed` says, and the measure is what is left of the file.
 use Rattle.std.proofs.Common.{◌-◌, length}
 use Rattle.files.proofs.Turns.{Listed}
 use Rattle.files.proofs.listing.write.Given as goal

@@ -1,3 +1,4 @@
+-- The loop keeps what `Counted` says, and the measure is what is left of the file.
 use Rattle.std.proofs.Common.{◌-◌, length}
 use Rattle.files.proofs.Turns.{Counted}
 use Rattle.files.proofs.places.count_records.Given as goal

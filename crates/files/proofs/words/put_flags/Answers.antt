@@ -7,11 +7,11 @@ use Rattle.files.proofs.words.put_flags.Goals as goal
 
 pub returns-then-flags-eq0-clause-put : goal.returns-then-flags-eq0-clause-put
 unfolding flags_word
-returns-then-flags-eq0-clause-put c = search (puts, put_below, put_above, rules)
+returns-then-flags-eq0-clause-put c = search (puts, rules)
 
 pub returns-then-flags-lt32-clause-put : goal.returns-then-flags-lt32-clause-put
 unfolding flags_word
-returns-then-flags-lt32-clause-put c = search (puts, put_below, put_above, rules)
+returns-then-flags-lt32-clause-put c = search (puts, put_below, rules)
 
 pub returns-clause-put : goal.returns-clause-put
 unfolding flags_word

@@ -7,11 +7,11 @@ use Rattle.files.proofs.words.put_operation_word.Goals as goal
 
 pub returns-then-operation-eq0-clause-put : goal.returns-then-operation-eq0-clause-put
 unfolding operation_word
-returns-then-operation-eq0-clause-put c = search (puts, put_below, put_above, rules)
+returns-then-operation-eq0-clause-put c = search (puts, rules)
 
 pub returns-then-operation-lt4-clause-put : goal.returns-then-operation-lt4-clause-put
 unfolding operation_word
-returns-then-operation-lt4-clause-put c = search (puts, put_below, put_above, rules)
+returns-then-operation-lt4-clause-put c = search (puts, put_below, rules)
 
 pub returns-clause-put : goal.returns-clause-put
 unfolding operation_word

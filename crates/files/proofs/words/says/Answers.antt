@@ -1,3 +1,4 @@
+-- What was put into the array is the words, as far as it was put.
 use Rattle.std.proofs.Common.{sym, ◌∙◌, rules}
 use Rattle.text.proofs.Laws.{put_first}
 use Rattle.files.proofs.words.says.Goals as goal

@@ -1,3 +1,4 @@
+-- The measure is the bytes up to the end.
 use Rattle.std.proofs.Common.{◌-◌, length}
 use Rattle.peers.proofs.entries.+keep.Given as goal
 

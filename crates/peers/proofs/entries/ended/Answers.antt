@@ -9,4 +9,4 @@ pub returns-then-bad-eq0 : goal.returns-then-bad-eq0
 returns-then-bad-eq0 c = search (ended_full, ended_good, ended_bad, rules)
 
 pub returns : goal.returns
-returns c = search (ended_full, ended_good, ended_bad, rules)
+returns c = search (ended_bad, rules)

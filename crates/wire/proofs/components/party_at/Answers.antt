@@ -6,4 +6,4 @@ pub returns-then-e-eq0 : goal.returns-then-e-eq0
 returns-then-e-eq0 c = search (party_none, party_some, rules)
 
 pub returns : goal.returns
-returns c = search (party_none, party_some, rules)
+returns c = search (party_some, rules)

@@ -6,4 +6,4 @@ pub returns-then-s-next : goal.returns-then-s-next
 returns-then-s-next c = search (one_alone, one_more, rules)
 
 pub returns : goal.returns
-returns c = search (one_alone, one_more, rules)
+returns c = search (one_more, rules)

@@ -9,7 +9,7 @@ pub loop-place-smaller : goal.loop-place-smaller
 loop-place-smaller c = search (going_refused, going_fits, going_less, going_on, going_done, going_start, rules)
 
 pub loop-place-preserved : goal.loop-place-preserved
-loop-place-preserved c = search (going_refused, going_fits, going_less, going_on, going_done, going_start, rules)
+loop-place-preserved c = search (going_on, rules)
 
 pub returns : goal.returns
 returns c = search (going_refused, going_fits, going_less, going_on, going_done, going_start, rules)

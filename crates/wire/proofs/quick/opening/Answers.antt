@@ -12,4 +12,4 @@ pub overflow_add-result-then-size-lt128-2 : goal.overflow_add-result-then-size-l
 overflow_add-result-then-size-lt128-2 c = search (short_near, short_fits, opening_here, rules)
 
 pub returns-then-size-lt128 : goal.returns-then-size-lt128
-returns-then-size-lt128 c = search (short_near, short_fits, opening_here, rules)
+returns-then-size-lt128 c = search (opening_here, rules)

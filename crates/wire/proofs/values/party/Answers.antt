@@ -12,4 +12,4 @@ pub returns-then-next-i-lt2 : goal.returns-then-next-i-lt2
 returns-then-next-i-lt2 c = search (party_past, party_less, party_short, party_by_lem, rules)
 
 pub returns : goal.returns
-returns c = search (party_past, party_less, party_short, party_by_lem, rules)
+returns c = search (party_by_lem, rules)

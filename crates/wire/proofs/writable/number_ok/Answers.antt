@@ -6,11 +6,11 @@ use Rattle.wire.proofs.writable.number_ok.Goals as goal
 
 pub returns-then-n-lt1 : goal.returns-then-n-lt1
 unfolding number_ok
-returns-then-n-lt1 c = search (cases, number_fits, number_over, rules) depth 20
+returns-then-n-lt1 c = search (cases, number_over, rules) depth 20
 
 pub returns-then-n-gt15 : goal.returns-then-n-gt15
 unfolding number_ok
-returns-then-n-gt15 c = search (cases, number_fits, number_over, rules) depth 20
+returns-then-n-gt15 c = search (cases, number_over, rules) depth 20
 
 pub returns-then-n-ten_to : goal.returns-then-n-ten_to
 unfolding number_ok
@@ -22,4 +22,4 @@ returns-then-named-eq1 c = search (cases, number_fits, number_over, rules) depth
 
 pub returns : goal.returns
 unfolding number_ok
-returns c = search (cases, number_fits, number_over, rules) depth 20
+returns c = search (cases, number_fits, rules) depth 20
