@@ -8,6 +8,7 @@ use Prim.Native.Nat.{ℕ, ◌≤◌}
 use native.Mathlib.Omega.{arith}
 use lib.Dec.{eqb, ltb, leb}
 use borrow.Author.Tests.{leb-true, ne_eqb}
+use Rattle.std.specs.Prelude.{Option}
 use Rattle.meters.specs.Meters.{change_of, within_of}
 use Rattle.meters.specs.declared.Metered.{Metered}
 use Rattle.meters.specs.declared.Metered.TheVariants.{Done, TooMuch}
@@ -187,12 +188,12 @@ opening_alike expiry = refl
 opening_alike time = refl
 
 -- a row is found for both, or for neither
-by_row : (b : Bool) (x : Row) {c d : Call} (r r' : Reading) → SameAnswer (if_row true x c r) (if_row true x d r') →
+by_row : (b : Bool) (x : Option Row) {c d : Call} (r r' : Reading) → SameAnswer (if_row true x c r) (if_row true x d r') →
     SameAnswer (if_row false x c r) (if_row false x d r') → SameAnswer (if_row b x c r) (if_row b x d r')
 by_row true x r r' h i = h
 by_row false x r r' h i = i
 
-abbrev row_for : Call → Event → Row
+abbrev row_for : Call → Event → Option Row
 row_for c e = row_for_of c.side.role c.stand.phase c.stand.rev (cue_of (read_of e))
 
 -- the same row is found and planned for both: neither looks at a number

@@ -10,243 +10,243 @@ ghost use Rattle.rows.specs.Find.{destination_setup_of, destination_answered_of,
 use crate::{Cue, Kind, Phase, RevState, Role, Row};
 
 // before the opening, and after the clearing.
-fn vacant(e: Cue) -> Row
+fn vacant(e: Cue) -> Option<Row>
     ensures { result ≡ vacant_of e.kind e }
 {
     match e.kind {
-        Kind::Opens => Row::Opened,
-        _ => Row::NoRow,
+        Kind::Opens => Some(Row::Opened),
+        _ => None,
     }
 }
 
 // originating, NULL.
-fn originating_null(e: Cue) -> Row
+fn originating_null(e: Cue) -> Option<Row>
     ensures { result ≡ originating_null_of e.kind e }
 {
     match e.kind {
-        Kind::Asks if e.asked.basic => Row::BasicRequest,
-        Kind::Asks if e.asked.casea => Row::AskSetup,
-        _ => Row::NoRow,
+        Kind::Asks if e.asked.basic => Some(Row::BasicRequest),
+        Kind::Asks if e.asked.casea => Some(Row::AskSetup),
+        _ => None,
     }
 }
 
 // originating, SETUP, IDLE.
-fn originating_setup_idle(e: Cue) -> Row
+fn originating_setup_idle(e: Cue) -> Option<Row>
     ensures { result ≡ originating_setup_idle_of e.kind e }
 {
     match e.kind {
-        Kind::Answer if e.heard.alone => Row::BasicAnswer,
-        Kind::Rel => Row::Released,
-        Kind::Fac if e.heard.invokecalled => Row::UnconditionalAsked,
-        Kind::Tells if e.told.clears => Row::ClearedHere,
-        Kind::Passes => Row::TimeInSetup,
-        _ => Row::NoRow,
+        Kind::Answer if e.heard.alone => Some(Row::BasicAnswer),
+        Kind::Rel => Some(Row::Released),
+        Kind::Fac if e.heard.invokecalled => Some(Row::UnconditionalAsked),
+        Kind::Tells if e.told.clears => Some(Row::ClearedHere),
+        Kind::Passes => Some(Row::TimeInSetup),
+        _ => None,
     }
 }
 
 // originating, SETUP, WAIT-SETUP.
-fn wait_setup(e: Cue) -> Row
+fn wait_setup(e: Cue) -> Option<Row>
     ensures { result ≡ wait_setup_of e.kind e }
 {
     match e.kind {
-        Kind::Answer if e.heard.resultsetup => Row::SetupAccepted,
-        Kind::Answer if e.heard.alone => Row::SetupFailed,
-        Kind::Rel if e.heard.failure => Row::SetupError,
-        Kind::Rel if e.heard.rejection => Row::SetupReleased,
-        Kind::Rel if e.heard.alone => Row::SetupReleased,
-        Kind::Rel => Row::Released,
-        Kind::Tells if e.told.clears => Row::ClearedHere,
-        Kind::Expires => Row::SetupFailed,
-        Kind::Passes => Row::TimeInSetup,
-        _ => Row::NoRow,
+        Kind::Answer if e.heard.resultsetup => Some(Row::SetupAccepted),
+        Kind::Answer if e.heard.alone => Some(Row::SetupFailed),
+        Kind::Rel if e.heard.failure => Some(Row::SetupError),
+        Kind::Rel if e.heard.rejection => Some(Row::SetupReleased),
+        Kind::Rel if e.heard.alone => Some(Row::SetupReleased),
+        Kind::Rel => Some(Row::Released),
+        Kind::Tells if e.told.clears => Some(Row::ClearedHere),
+        Kind::Expires => Some(Row::SetupFailed),
+        Kind::Passes => Some(Row::TimeInSetup),
+        _ => None,
     }
 }
 
 // originating, SETUP, WAIT-ANSWER.
-fn originating_wait_answer(e: Cue) -> Row
+fn originating_wait_answer(e: Cue) -> Option<Row>
     ensures { result ≡ originating_wait_answer_of e.kind e }
 {
     match e.kind {
-        Kind::Answer if e.heard.alone => Row::UnconditionalAnswered,
-        Kind::Rel => Row::Released,
-        Kind::Tells if e.told.clears => Row::ClearedHere,
-        Kind::Passes => Row::TimeInSetup,
-        _ => Row::NoRow,
+        Kind::Answer if e.heard.alone => Some(Row::UnconditionalAnswered),
+        Kind::Rel => Some(Row::Released),
+        Kind::Tells if e.told.clears => Some(Row::ClearedHere),
+        Kind::Passes => Some(Row::TimeInSetup),
+        _ => None,
     }
 }
 
 // originating, ANSWERED, IDLE.
-fn originating_answered_idle(e: Cue) -> Row
+fn originating_answered_idle(e: Cue) -> Option<Row>
     ensures { result ≡ originating_answered_idle_of e.kind e }
 {
     match e.kind {
-        Kind::Asks if e.asked.caseb => Row::AskActive,
-        Kind::Rel => Row::Released,
-        Kind::Fac if e.heard.invokecalled => Row::CalledAsked,
-        Kind::Tells if e.told.clears => Row::ClearedHere,
-        Kind::Passes => Row::TimeCounts,
-        _ => Row::NoRow,
+        Kind::Asks if e.asked.caseb => Some(Row::AskActive),
+        Kind::Rel => Some(Row::Released),
+        Kind::Fac if e.heard.invokecalled => Some(Row::CalledAsked),
+        Kind::Tells if e.told.clears => Some(Row::ClearedHere),
+        Kind::Passes => Some(Row::TimeCounts),
+        _ => None,
     }
 }
 
 // originating, ANSWERED, WAIT-ACTIVE.
-fn wait_active(e: Cue) -> Row
+fn wait_active(e: Cue) -> Option<Row>
     ensures { result ≡ wait_active_of e.kind e }
 {
     match e.kind {
-        Kind::Asks if e.asked.reversal => Row::RunningHere,
-        Kind::Rel => Row::WaitReleased,
-        Kind::Fac if e.heard.invoke => Row::RunningThere,
-        Kind::Fac if e.heard.resultactive => Row::ActiveAccepted,
-        Kind::Fac if e.heard.failure => Row::WaitError,
-        Kind::Fac if e.heard.rejection => Row::WaitFailed,
-        Kind::Fac if e.heard.alone => Row::WaitFailed,
-        Kind::Tells if e.told.clears => Row::ClearedHere,
-        Kind::Expires => Row::WaitFailed,
-        Kind::Passes => Row::TimeCounts,
-        _ => Row::NoRow,
+        Kind::Asks if e.asked.reversal => Some(Row::RunningHere),
+        Kind::Rel => Some(Row::WaitReleased),
+        Kind::Fac if e.heard.invoke => Some(Row::RunningThere),
+        Kind::Fac if e.heard.resultactive => Some(Row::ActiveAccepted),
+        Kind::Fac if e.heard.failure => Some(Row::WaitError),
+        Kind::Fac if e.heard.rejection => Some(Row::WaitFailed),
+        Kind::Fac if e.heard.alone => Some(Row::WaitFailed),
+        Kind::Tells if e.told.clears => Some(Row::ClearedHere),
+        Kind::Expires => Some(Row::WaitFailed),
+        Kind::Passes => Some(Row::TimeCounts),
+        _ => None,
     }
 }
 
 // both roles, ANSWERED, ACTIVE.
-fn active(e: Cue) -> Row
+fn active(e: Cue) -> Option<Row>
     ensures { result ≡ active_of e.kind e }
 {
     match e.kind {
-        Kind::Asks if e.asked.reversal => Row::RunningHere,
-        Kind::Rel => Row::Released,
-        Kind::Fac if e.heard.invoke => Row::RunningThere,
-        Kind::Tells if e.told.clears => Row::ClearedHere,
-        Kind::Passes => Row::TimeCounts,
-        _ => Row::NoRow,
+        Kind::Asks if e.asked.reversal => Some(Row::RunningHere),
+        Kind::Rel => Some(Row::Released),
+        Kind::Fac if e.heard.invoke => Some(Row::RunningThere),
+        Kind::Tells if e.told.clears => Some(Row::ClearedHere),
+        Kind::Passes => Some(Row::TimeCounts),
+        _ => None,
     }
 }
 
 // destination, NULL.
-fn destination_null(e: Cue) -> Row
+fn destination_null(e: Cue) -> Option<Row>
     ensures { result ≡ destination_null_of e.kind e }
 {
     match e.kind {
-        Kind::Iam if e.heard.alone => Row::PlainIam,
-        Kind::Iam if e.heard.invokesetup => Row::SetupAsked,
-        _ => Row::NoRow,
+        Kind::Iam if e.heard.alone => Some(Row::PlainIam),
+        Kind::Iam if e.heard.invokesetup => Some(Row::SetupAsked),
+        _ => None,
     }
 }
 
 // destination, SETUP, IDLE.
-fn destination_setup_idle(e: Cue) -> Row
+fn destination_setup_idle(e: Cue) -> Option<Row>
     ensures { result ≡ destination_setup_idle_of e.kind e }
 {
     match e.kind {
-        Kind::Rel => Row::Released,
-        Kind::Tells if e.told.answers => Row::AnsweredHere,
-        Kind::Tells if e.told.clears => Row::ClearedHere,
-        Kind::Passes => Row::TimeInSetup,
-        _ => Row::NoRow,
+        Kind::Rel => Some(Row::Released),
+        Kind::Tells if e.told.answers => Some(Row::AnsweredHere),
+        Kind::Tells if e.told.clears => Some(Row::ClearedHere),
+        Kind::Passes => Some(Row::TimeInSetup),
+        _ => None,
     }
 }
 
 // destination, SETUP, WAIT-SETUP-CONF.
-fn wait_setup_conf(e: Cue) -> Row
+fn wait_setup_conf(e: Cue) -> Option<Row>
     ensures { result ≡ wait_setup_conf_of e.kind e }
 {
     match e.kind {
-        Kind::Rel => Row::Released,
-        Kind::Tells if e.told.accepts => Row::SetupConfirmed,
-        Kind::Tells if e.told.refuses => Row::SetupRefused,
-        Kind::Tells if e.told.rejects => Row::SetupRejected,
-        Kind::Tells if e.told.clears => Row::ClearedHere,
-        Kind::Tells if e.told.answers => Row::SetupIgnored,
-        Kind::Expires => Row::SetupExpired,
-        Kind::Passes => Row::TimeInSetup,
-        _ => Row::NoRow,
+        Kind::Rel => Some(Row::Released),
+        Kind::Tells if e.told.accepts => Some(Row::SetupConfirmed),
+        Kind::Tells if e.told.refuses => Some(Row::SetupRefused),
+        Kind::Tells if e.told.rejects => Some(Row::SetupRejected),
+        Kind::Tells if e.told.clears => Some(Row::ClearedHere),
+        Kind::Tells if e.told.answers => Some(Row::SetupIgnored),
+        Kind::Expires => Some(Row::SetupExpired),
+        Kind::Passes => Some(Row::TimeInSetup),
+        _ => None,
     }
 }
 
 // destination, SETUP, WAIT-CALLED.
-fn setup_wait_called(e: Cue) -> Row
+fn setup_wait_called(e: Cue) -> Option<Row>
     ensures { result ≡ setup_wait_called_of e.kind e }
 {
     match e.kind {
-        Kind::Asks if e.asked.reversal => Row::RunningHere, // case D: the wait goes on
-        Kind::Rel => Row::Released,
-        Kind::Fac if e.heard.invoke => Row::RunningThere,
-        Kind::Fac if e.heard.resultcalled => Row::UnconditionalAccepted,
-        Kind::Fac if e.heard.failure => Row::UnconditionalFailed,
-        Kind::Fac if e.heard.rejection => Row::UnconditionalFailed,
-        Kind::Tells if e.told.clears => Row::ClearedHere,
-        Kind::Expires => Row::UnconditionalFailed,
-        Kind::Passes => Row::TimeInSetup,
-        _ => Row::NoRow,
+        Kind::Asks if e.asked.reversal => Some(Row::RunningHere), // case D: the wait goes on
+        Kind::Rel => Some(Row::Released),
+        Kind::Fac if e.heard.invoke => Some(Row::RunningThere),
+        Kind::Fac if e.heard.resultcalled => Some(Row::UnconditionalAccepted),
+        Kind::Fac if e.heard.failure => Some(Row::UnconditionalFailed),
+        Kind::Fac if e.heard.rejection => Some(Row::UnconditionalFailed),
+        Kind::Tells if e.told.clears => Some(Row::ClearedHere),
+        Kind::Expires => Some(Row::UnconditionalFailed),
+        Kind::Passes => Some(Row::TimeInSetup),
+        _ => None,
     }
 }
 
 // destination, SETUP, WAIT-ANSWER.
-fn destination_wait_answer(e: Cue) -> Row
+fn destination_wait_answer(e: Cue) -> Option<Row>
     ensures { result ≡ destination_wait_answer_of e.kind e }
 {
     match e.kind {
-        Kind::Rel => Row::Released,
-        Kind::Tells if e.told.answers => Row::UnconditionalConnected,
-        Kind::Tells if e.told.clears => Row::ClearedHere,
-        Kind::Passes => Row::TimeInSetup,
-        _ => Row::NoRow,
+        Kind::Rel => Some(Row::Released),
+        Kind::Tells if e.told.answers => Some(Row::UnconditionalConnected),
+        Kind::Tells if e.told.clears => Some(Row::ClearedHere),
+        Kind::Passes => Some(Row::TimeInSetup),
+        _ => None,
     }
 }
 
 // destination, ANSWERED, IDLE.
-fn destination_answered_idle(e: Cue) -> Row
+fn destination_answered_idle(e: Cue) -> Option<Row>
     ensures { result ≡ destination_answered_idle_of e.kind e }
 {
     match e.kind {
-        Kind::Asks if e.asked.caseb => Row::AskPartial,
-        Kind::Asks if e.asked.casec => Row::AskEntire,
-        Kind::Rel => Row::Released,
-        Kind::Fac if e.heard.invokeactive => Row::ActiveAsked,
-        Kind::Tells if e.told.clears => Row::ClearedHere,
-        Kind::Passes => Row::TimeCounts,
-        _ => Row::NoRow,
+        Kind::Asks if e.asked.caseb => Some(Row::AskPartial),
+        Kind::Asks if e.asked.casec => Some(Row::AskEntire),
+        Kind::Rel => Some(Row::Released),
+        Kind::Fac if e.heard.invokeactive => Some(Row::ActiveAsked),
+        Kind::Tells if e.told.clears => Some(Row::ClearedHere),
+        Kind::Passes => Some(Row::TimeCounts),
+        _ => None,
     }
 }
 
 // destination, ANSWERED, WAIT-ACTIVE-CONF.
-fn wait_active_conf(e: Cue) -> Row
+fn wait_active_conf(e: Cue) -> Option<Row>
     ensures { result ≡ wait_active_conf_of e.kind e }
 {
     match e.kind {
-        Kind::Asks if e.asked.reversal => Row::RunningHere,
-        Kind::Rel => Row::Released,
-        Kind::Fac if e.heard.invoke => Row::RunningThere,
-        Kind::Tells if e.told.accepts => Row::ActiveConfirmed,
-        Kind::Tells if e.told.refuses => Row::ActiveRefused,
-        Kind::Tells if e.told.rejects => Row::ActiveRejected,
-        Kind::Tells if e.told.clears => Row::ActiveCleared,
-        Kind::Expires => Row::ActiveIgnored,
-        Kind::Passes => Row::TimeCounts,
-        _ => Row::NoRow,
+        Kind::Asks if e.asked.reversal => Some(Row::RunningHere),
+        Kind::Rel => Some(Row::Released),
+        Kind::Fac if e.heard.invoke => Some(Row::RunningThere),
+        Kind::Tells if e.told.accepts => Some(Row::ActiveConfirmed),
+        Kind::Tells if e.told.refuses => Some(Row::ActiveRefused),
+        Kind::Tells if e.told.rejects => Some(Row::ActiveRejected),
+        Kind::Tells if e.told.clears => Some(Row::ActiveCleared),
+        Kind::Expires => Some(Row::ActiveIgnored),
+        Kind::Passes => Some(Row::TimeCounts),
+        _ => None,
     }
 }
 
 // destination, ANSWERED, WAIT-CALLED.
-fn answered_wait_called(e: Cue) -> Row
+fn answered_wait_called(e: Cue) -> Option<Row>
     ensures { result ≡ answered_wait_called_of e.kind e }
 {
     match e.kind {
-        Kind::Asks if e.asked.reversal => Row::RunningHere, // cases B and C: the wait goes on
-        Kind::Rel => Row::WaitReleased,
-        Kind::Fac if e.heard.invoke => Row::RunningThere,
-        Kind::Fac if e.heard.resultcalled => Row::CalledAccepted,
-        Kind::Fac if e.heard.failure => Row::WaitError,
-        Kind::Fac if e.heard.rejection => Row::WaitFailed,
-        Kind::Tells if e.told.clears => Row::ClearedHere,
-        Kind::Expires => Row::WaitFailed,
-        Kind::Passes => Row::TimeCounts,
-        _ => Row::NoRow,
+        Kind::Asks if e.asked.reversal => Some(Row::RunningHere), // cases B and C: the wait goes on
+        Kind::Rel => Some(Row::WaitReleased),
+        Kind::Fac if e.heard.invoke => Some(Row::RunningThere),
+        Kind::Fac if e.heard.resultcalled => Some(Row::CalledAccepted),
+        Kind::Fac if e.heard.failure => Some(Row::WaitError),
+        Kind::Fac if e.heard.rejection => Some(Row::WaitFailed),
+        Kind::Tells if e.told.clears => Some(Row::ClearedHere),
+        Kind::Expires => Some(Row::WaitFailed),
+        Kind::Passes => Some(Row::TimeCounts),
+        _ => None,
     }
 }
 
 // the row that a role has for an event in a phase and REV state.
-pub(crate) fn row_for(r: Role, p: Phase, s: RevState, e: Cue) -> Row
+pub(crate) fn row_for(r: Role, p: Phase, s: RevState, e: Cue) -> Option<Row>
     ensures { result ≡ row_for_of r p s e }
 {
     match (r, p, s) {
@@ -266,6 +266,6 @@ pub(crate) fn row_for(r: Role, p: Phase, s: RevState, e: Cue) -> Row
         (Role::Destination, Phase::Answered, RevState::Idle) => destination_answered_idle(e),
         (Role::Destination, Phase::Answered, RevState::WaitActiveConf) => wait_active_conf(e),
         (Role::Destination, Phase::Answered, RevState::WaitCalled) => answered_wait_called(e),
-        _ => Row::NoRow,
+        _ => None,
     }
 }

@@ -201,8 +201,6 @@ pub struct Told {
 // The names O1 .. O40, D1 .. D60 and G1 .. G5 are those of docs/ROWS.md.
 #[derive(Clone, Copy)]
 pub enum Row {
-    // no row: 1, 15 or 16
-    NoRow,
     // G1
     Opened,
     // G2

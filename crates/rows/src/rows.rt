@@ -1,6 +1,6 @@
 // PLAN: what each row does, in the order of its sentence. A row sees only the terms that it names, and never the call.
 ghost use Rattle.std.specs.Prelude.{◌≡◌};
-ghost use Rattle.rows.specs.Rows.{refuses, needs, quiet, access_error, far_error, stops, access_release};
+ghost use Rattle.rows.specs.Rows.{needs, quiet, access_error, far_error, stops, access_release};
 ghost use Rattle.rows.specs.Rows.{far_release};
 ghost use Rattle.rows.specs.Rows.{basic_request, basic_answer, answered_here, ask_setup, unconditional_asked, accepted_at_answer};
 ghost use Rattle.rows.specs.Rows.{setup_error, ask_active};
@@ -29,7 +29,7 @@ use crate::Service::{OnRequest, Unconditional};
 use crate::numbers::{
     AGREED, AGREED_CALLING, AGREED_CALLING_DURATION, ALREADY_RUNNING, APPLIED, BARE,
     BASIC_SERVICE_NOT_PROVIDED, CALLED_REQUEST, CALLING_REQ_ACTIVE, CALLING_REQ_SETUP,
-    FACILITY_REJECTED, INTERACTION_NOT_ALLOWED, NO_ROW, NORMAL_CLEARING, NOT_AVAILABLE, OWN_CALLED,
+    FACILITY_REJECTED, INTERACTION_NOT_ALLOWED, NORMAL_CLEARING, NOT_AVAILABLE, OWN_CALLED,
     PART_ABSENT, PARTIAL_CALLED, TIMER_EXPIRY, TRANSFER, TRANSFER_CALLING, TRANSFER_PARTIAL,
     USER_IGNORED, USER_NOT_SUBSCRIBED,
 };
@@ -68,21 +68,18 @@ const CLEARING: Plan = Plan {
     ..NOTHING_DONE
 };
 
-// No row, or a needed part that is absent.
-fn refuses(number: u8) -> Plan
-    ensures { result ≡ refuses number }
-{
-    Plan {
-        number,
-        ..NOTHING_DONE
-    }
-}
-
 // 01, number 4: a part that the row needs is there, or not.
 fn needs(there: bool, plan: Plan) -> Plan
     ensures { result ≡ needs there plan }
 {
-    if there { plan } else { refuses(PART_ABSENT) }
+    if there {
+        plan
+    } else {
+        Plan {
+            number: PART_ABSENT,
+            ..NOTHING_DONE
+        }
+    }
 }
 
 // No action.
@@ -718,7 +715,6 @@ pub(crate) fn plan_of(row: Row, t: Terms) -> Plan
     ensures { result ≡ plan_of row t }
 {
     match row {
-        Row::NoRow => refuses(NO_ROW), // not asked: where there is no row, `takes` says why
         Row::Opened => quiet(ToNull, Begin, FromOpening), // G1
         Row::TimeInSetup => quiet(Stay, Keep, AsHeld), // G2
         Row::TimeCounts => quiet(Stay, TimePasses, AsHeld), // G3

@@ -52,22 +52,14 @@ impl Call {
     fn takes(self, e: Event) -> Outcome
         ensures { result ≡ takes_of self e }
     {
-        let side = self.side;
-        let stand = self.stand;
-        let role = side.role;
-        let flags = side.flags;
-        let phase = stand.phase;
-        let rev = stand.rev;
         let r = read::read(e);
         let cue = read::cue_of(r);
-        let row = find::row_for(role, phase, rev, cue);
-        if why::is_row(row) {
-            let terms = read::terms_of(flags, stand, r);
-            let plan = rows::plan_of(row, terms);
-            self.perform(plan, r)
-        } else {
-            let n = why::why(role, phase, cue);
-            self.refused(n)
+        match find::row_for(self.side.role, self.stand.phase, self.stand.rev, cue) {
+            Some(row) => {
+                let terms = read::terms_of(self.side.flags, self.stand, r);
+                self.perform(rows::plan_of(row, terms), r)
+            }
+            None => self.refused(why::why(self.side.role, self.stand.phase, cue)),
         }
     }
 

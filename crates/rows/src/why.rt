@@ -1,17 +1,11 @@
 // WHY there was no row: asked only of an event that found none, and by tables smaller than those that find rows, for a file may be full of
 // such events.
 ghost use Rattle.std.specs.Prelude.{◌≡◌};
-ghost use Rattle.rows.specs.Why.{is_row, why_of, small_has, small_ever, vacant_has, originating_null_has, originating_setup_has};
+ghost use Rattle.rows.specs.Why.{why_of, small_has, small_ever, vacant_has, originating_null_has, originating_setup_has};
 ghost use Rattle.rows.specs.Why.{originating_answered_has, destination_null_has, destination_setup_has, destination_answered_has};
 
 use crate::numbers::{NO_ROW, WRONG_PHASE, WRONG_STATE};
-use crate::{Cue, Kind, Phase, Role, Row};
-
-pub(crate) fn is_row(row: Row) -> bool
-    ensures { result ≡ is_row row }
-{
-    !matches!(row, Row::NoRow)
-}
+use crate::{Cue, Kind, Phase, Role};
 
 // ---- Each phase: the events that have a row in one of its REV states
 
