@@ -4,7 +4,6 @@ use mathlib.Core.Path.{◌≡◌, refl, sym, ◌∙◌, ap}
 use mathlib.Core.Bool.{Bool, true, false}
 use Prim.Native.Nat.{ℕ}
 use lib.Dec.{eqb}
-use borrow.Author.Tests.{ne_eqb}
 use Rattle.std.specs.Prelude.{Option, Some, None}
 use Rattle.meters.specs.declared.Metered.{Metered}
 use Rattle.meters.specs.declared.Metered.TheVariants.{Done, TooMuch}
@@ -142,25 +141,3 @@ has_plan c e =
 
     found : Option Row
     found = row_for_of c.side.role c.stand.phase c.stand.rev (cue_of (read_of e))
-
--- ---- what the code learns on its way to a row
-
-module _ (c : Call) (e : Event) (r : Reading) (q : Cue) (x : Option Row) (g : r ≡ read_of e) (h : q ≡ cue_of r)
-    (i : x ≡ row_for_of c.side.role c.stand.phase c.stand.rev q) where
-  abbrev found : Option Row
-  found = row_for_of c.side.role c.stand.phase c.stand.rev (cue_of (read_of e))
-
-  is_found : (a b : Bool) → a ≡ is_row x → a ≡ b → is_row found ≡ b
-  is_found a b j k = sym (ap is_row (i ∙ ap (row_for_of c.side.role c.stand.phase c.stand.rev) (h ∙ ap cue_of g))) ∙ sym j ∙ k
-
-  pub row_there : (a : Bool) → a ≡ is_row x → a ≡ true → performed c e ≡ takes_of c e
-  row_there a j k = sym (ap (λ (b : Bool). if_row b found c (read_of e)) (is_found a true j k))
-
-  pub row_missing : (a : Bool) → a ≡ is_row x → a ≡ false → refused_of (why_of c.side.role c.stand.phase (cue_of (read_of e))) c ≡ takes_of c e
-  row_missing a j k = sym (ap (λ (b : Bool). if_row b found c (read_of e)) (is_found a false j k))
-
--- .. and before it, whether the event comes in its time
-module _ (c : Call) (e : Event) (v : valid_of c ≡ true) (n : ℕ) (g : n ≡ untimely_of c.stand.phase (is_opening e)) where
-  pub step_untimely : (n ≡ 0 → ⊥) → refused_of n c ≡ step_of c e
-  step_untimely h =
-      sym (ap (λ (x : Bool). if_call x c e) v ∙ ap (λ (k : ℕ). in_time (eqb k 0) k c e) (sym g) ∙ ap (λ (x : Bool). in_time x n c e) (ne_eqb n 0 h))

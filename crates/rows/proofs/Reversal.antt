@@ -13,7 +13,6 @@ use Rattle.rows.specs.History.{run, written, history, opening}
 use Rattle.rows.specs.Promises.{reversals, Extends, with_more}
 use Rattle.rows.specs.Perform.{perform_of}
 use Rattle.rows.specs.Read.{read_of, terms_of}
-use Rattle.rows.specs.Rows.{plan_of}
 use Rattle.rows.specs.Step.{planned, step_of}
 use Rattle.rows.specs.declared.Call.{Call}
 use Rattle.rows.specs.declared.Event.{Event}
