@@ -126,6 +126,7 @@ pub enum Event {
 pub struct Reading {
     pub kind: Kind,
     // the role of an opening, what the own user asks, what the access tells
+    // Kept: a record's numbers, as Event has them and as `read_of`, `asked_of` and `told_of` (Read.antt) take them.
     pub item: u8,
     pub flags: u8,
     pub component: Component,
@@ -163,6 +164,7 @@ pub enum Kind {
 }
 
 // What the own user asks for: a basic call, or reverse charging by case A, B or C.
+// Kept: here, in Heard and in Told a bool for each test of the tables, for the tests overlap: reversal is casea, caseb or casec.
 #[derive(Clone, Copy)]
 pub struct Asked {
     pub basic: bool,

@@ -14,6 +14,15 @@ use crate::{
     Kind, Message, Mode, Reading, Service, Stand, Terms, Told,
 };
 
+// 01, kind 3: the parts that a row looks for one by one, beside those that numbers.rt has.
+const PARTIAL: u8 = 8;
+
+const CALLING: u8 = 16;
+
+const CALLED: u8 = 32;
+
+const DURATION: u8 = 64;
+
 // 01, kind 1: 1 transfer, 2 subscription option, 4 subscribed, 8 interaction allowed, 16 case D.
 pub(crate) fn flags_of(n: u8) -> Flags
     ensures { result ≡ flags_of n }
@@ -302,12 +311,12 @@ pub(crate) fn terms_of(f: Flags, at: Stand, r: Reading) -> Terms
         service: Service::from(f.unconditional),
         taken: Mode::from(f.transfer && transfer_asked),
         accepted: Mode::from(f.transfer && transfer_accepted),
-        extent: Extent::from((r.parts / 8) % 2 == 1),
+        extent: Extent::from((r.parts / PARTIAL) % 2 == 1),
         agreed: Mode::from(at.agreed),
         asked: Extent::from(at.rest),
-        called: transfer_asked || (r.parts / 32) % 2 == 1,
-        calling: (r.parts / 16) % 2 == 1,
-        duration: (r.parts / 64) % 2 == 1,
+        called: transfer_asked || (r.parts / CALLED) % 2 == 1,
+        calling: (r.parts / CALLING) % 2 == 1,
+        duration: (r.parts / DURATION) % 2 == 1,
         correct: Correctness::from(listed(r.error)),
         error: r.error,
         cause: r.cause,

@@ -1,18 +1,16 @@
 // PLAN: what each row does, in the order of its sentence. A row sees only the terms that it names, and never the call.
 ghost use Rattle.std.specs.Prelude.{◌≡◌};
-ghost use Rattle.rows.specs.Rows.{needs, quiet, access_error, far_error, stops, access_release};
-ghost use Rattle.rows.specs.Rows.{far_release};
-ghost use Rattle.rows.specs.Rows.{basic_request, basic_answer, answered_here, ask_setup, unconditional_asked, accepted_at_answer};
-ghost use Rattle.rows.specs.Rows.{setup_error, ask_active};
-ghost use Rattle.rows.specs.Rows.{called_asked, accepted_in_call, wait_error, unconditional_failed, plain_iam, setup_asked, setup_confirmed};
-ghost use Rattle.rows.specs.Rows.{setup_refused};
-ghost use Rattle.rows.specs.Rows.{unconditional_accepted, unconditional_connected, active_asked, ask_called, active_confirmed};
-ghost use Rattle.rows.specs.Rows.{active_refused, called_accepted, plan_of};
+ghost use Rattle.rows.specs.Rows.{needs, quiet, access_error, far_error, stops, access_release, far_release, basic_request, basic_answer};
+ghost use Rattle.rows.specs.Rows.{answered_here, ask_setup, unconditional_asked, accepted_at_answer, setup_error, ask_active, called_asked};
+ghost use Rattle.rows.specs.Rows.{accepted_in_call, wait_error, unconditional_failed, plain_iam, setup_asked, setup_confirmed};
+ghost use Rattle.rows.specs.Rows.{setup_refused, unconditional_accepted, unconditional_connected, active_asked, ask_called};
+ghost use Rattle.rows.specs.Rows.{active_confirmed, active_refused, called_accepted, plan_of};
 
 use crate::Act::{
     AccessAsk, AccessError, AccessRel, AccessSetup, ChargeCalled, ChargeCalling, Nothing,
     NotifyAccepted, SendAnm, SendFac, SendIam, SendRel, Stop,
 };
+// In this file Error and Result are a message's components.
 use crate::Component::{Absent, Error, Invoke, Result};
 use crate::Correctness::{Correct, Incorrect};
 use crate::Extent::{Entire, Rest};
