@@ -11,7 +11,7 @@ ghost use Rattle.meters.specs.Meters.{change_of};
 const LIMIT: u64 = 31536000;
 
 // Whose meter runs.
-#[derive(Clone, Copy)]
+#[derive(Clone, Copy, PartialEq, Eq)]
 pub enum Payer {
     Nobody,
     Caller,

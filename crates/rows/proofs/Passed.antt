@@ -10,6 +10,7 @@ use Prim.Native.Nat.{ℕ}
 use lib.Dec.{leb, eqb}
 use borrow.Author.Tests.{eq-eqb}
 use Rattle.std.specs.Prelude.{Option, Some, None}
+use Rattle.meters.specs.declared.Meters.{Meters}
 use Rattle.meters.specs.Meters.{change_of}
 use Rattle.rows.specs.Perform.{refused_at, if_there, or_held, opened_of, stand_of, side_of, settled_of, perform_if, applies_of}
 use Rattle.rows.specs.Promises.{OneOf, this, later, own_in, calling_in, called_in, named_by, PassedOn, HeldOr, Keeps, OnlyOwn, HoldsOrClears, place_in}
