@@ -5,8 +5,6 @@ use mathlib.Core.Bool.{Bool, true, false}
 use Prim.Native.Nat.{ℕ}
 use lib.Dec.{eqb}
 use Rattle.std.specs.Prelude.{Option, Some, None}
-use Rattle.meters.specs.declared.Metered.{Metered}
-use Rattle.meters.specs.declared.Metered.TheVariants.{Done, TooMuch}
 use Rattle.meters.specs.declared.Meters.{Meters}
 use Rattle.rows.specs.Find.{row_for_of}
 use Rattle.rows.specs.Perform.{refused_at, refused_of, follows_of, settled_of, perform_of}
@@ -29,10 +27,10 @@ use Rattle.rows.specs.declared.Terms.{Terms}
 use Rattle.rows.proofs.Truth.{differ}
 
 -- 2 is a refusal; else the meters that follow are those of the change
-pub settled : (P : Outcome → Type 0) (x : Metered) (c : Call) (p : Plan) (r : Reading) →
-    ((n : Meters) → x ≡ Done n → P (follows_of c p r n)) → P (refused_of 2 c) → P (settled_of x c p r)
-settled P (Done n) c p r h i = h n refl
-settled P TooMuch c p r h i = i
+pub settled : (P : Outcome → Type 0) (x : Option Meters) (c : Call) (p : Plan) (r : Reading) →
+    ((n : Meters) → x ≡ Some n → P (follows_of c p r n)) → P (refused_of 2 c) → P (settled_of x c p r)
+settled P (Some n) c p r h i = h n refl
+settled P None c p r h i = i
 
 -- the plan of the row that an event finds, and what comes of it
 abbrev pub plan_for : Call → Event → Plan

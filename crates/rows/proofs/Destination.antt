@@ -11,7 +11,6 @@ use borrow.Author.Tests.{eqb-true, eqb-false, eq-eqb, leb-true}
 use Rattle.std.specs.Prelude.{Option, Some, None}
 use Rattle.meters.proofs.Laws.{gave, received}
 use Rattle.meters.specs.Meters.{new_of, paid_by_of, give_of, received_of}
-use Rattle.meters.specs.declared.Metered.TheVariants.{Done}
 use Rattle.meters.specs.declared.Meters.{Meters}
 use Rattle.meters.specs.declared.Payer.{Payer}
 use Rattle.meters.specs.declared.Payer.TheVariants.{Nobody, Called, Far}
@@ -122,7 +121,7 @@ Fine f b g c w x e row = Does f b g c w x e (planned row (terms_of c.side.flags 
 
 -- ---- What the meters promise
 
-ticks : {m n : Meters} {x : ℕ} (s : ℕ) → Right m x → give_of m s ≡ Done n → Right n (x + s)
+ticks : {m n : Meters} {x : ℕ} (s : ℕ) → Right m x → give_of m s ≡ Some n → Right n (x + s)
 ticks {m} {n} {x} s z h =
     let g = gave m n s (somebody Destination m.payer z.there) h in
     let p = not_callers m.payer s z.there in
@@ -131,7 +130,7 @@ ticks {m} {n} {x} s z h =
 switches : {m : Meters} {x : ℕ} (p : Payer) → payer_there p ≡ true → Sum m x → Right (paid_by_of m p) x
 switches p h z = record { there = h; sums = record { caller = z.caller; both = z.both } }
 
-receives_duration : {m n : Meters} {x : ℕ} (s : ℕ) → Sum m x → received_of m s ≡ Done n → Right n s
+receives_duration : {m n : Meters} {x : ℕ} (s : ℕ) → Sum m x → received_of m s ≡ Some n → Right n s
 receives_duration {m} {n} s z h =
     let g = received m n s h in
     record { there = ap payer_there g.payer; sums = record { caller = g.caller ∙ z.caller; both = omega (arith, g.called, g.far) } }

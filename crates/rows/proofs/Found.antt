@@ -9,7 +9,6 @@ use lib.Dec.{eqb}
 use borrow.Author.Tests.{not-true}
 use Rattle.std.specs.Prelude.{Option, Some, None}
 use Rattle.meters.specs.Meters.{change_of}
-use Rattle.meters.specs.declared.Metered.TheVariants.{Done}
 use Rattle.meters.specs.declared.Meters.{Meters}
 use Rattle.rows.specs.Find.{when, vacant_of, originating_null_of, originating_setup_idle_of, wait_setup_of, originating_wait_answer_of}
 use Rattle.rows.specs.Find.{originating_answered_idle_of, wait_active_of, active_of, destination_null_of, destination_setup_idle_of}
@@ -509,7 +508,7 @@ pub record Applied (c : Call) (e : Event) (n : Meters) : Type 0 where
   pub valid : valid_of c ≡ true
   pub ranged : event_ok e ≡ true
   pub row : eqb (plan_for c e).number 0 ≡ true
-  pub meters : change_of (plan_for c e).change c.meters (read_of e).seconds ≡ Done n
+  pub meters : change_of (plan_for c e).change c.meters (read_of e).seconds ≡ Some n
 
 -- no plan has the number 9
 abbrev unlike_nine : Test

@@ -13,7 +13,6 @@ use Rattle.meters.proofs.Laws
 use Rattle.meters.proofs.Laws.{Gave, gave, Moved, moved_to_called, moved_to_far}
 use Rattle.meters.specs.Meters.{new_of, paid_by_of, give_of, change_of}
 use Rattle.meters.specs.declared.Change.TheVariants.{EntireToCalled, EntireToFar}
-use Rattle.meters.specs.declared.Metered.TheVariants.{Done}
 use Rattle.meters.specs.declared.Meters.{Meters}
 use Rattle.meters.specs.declared.Payer.{Payer}
 use Rattle.meters.specs.declared.Payer.TheVariants.{Nobody, Caller, Called, Far}
@@ -182,7 +181,7 @@ somebody (took k t) h = by (covers k true) t h
     by false t h = differ (ap (same Nobody) h)
 
 -- the payer's meter takes the seconds
-ticks : {m n : Meters} {x y : ℕ} (s : ℕ) (w : Took) → Right m (known w x y) → give_of m s ≡ Done n → Right n (note_seconds w x y s)
+ticks : {m n : Meters} {x y : ℕ} (s : ℕ) (w : Took) → Right m (known w x y) → give_of m s ≡ Some n → Right n (note_seconds w x y s)
 ticks {m} {n} {x} {y} s nothing z h =
     let g = gave m n s (λ e. somebody nothing (sym z.pays ∙ e)) h in
     let g' : Gave m n Caller s s = subst (λ (p : Payer). Gave m n p s s) z.pays g in

@@ -1,6 +1,6 @@
 -- One step of a call: the answer to any event in any state.
 -- Assumes nothing.
-use Rattle.std.specs.Prelude.{ℕ, Bool, true, false, ◌&&◌, eqb, List, [], ◌∷◌, Option, Some, None}
+use Rattle.std.specs.Prelude.{ℕ, zero, suc, Option, Some, None, Bool, true, false, ◌&&◌, eqb, List, [], ◌∷◌}
 use Rattle.rows.specs.Find.{row_for_of}
 use Rattle.rows.specs.Numbers.{no_row, bad_field, not_a_call, before_opening, slot_in_use, iam, anm, rel, fac}
 use Rattle.rows.specs.Perform.{at, refused_at, refused_of, perform_of}
@@ -85,6 +85,11 @@ untimely_of Setup false = 0
 untimely_of Answered true = slot_in_use
 untimely_of Answered false = 0
 untimely_of Cleared opening = 0
+
+-- as it is answered: 0, which is none, is None
+abbrev pub refusal : ℕ → Option ℕ
+refusal zero = None
+refusal (suc n) = Some (suc n)
 
 -- 02 #106: "17 and 18 before 3", and #107: "20 in 18's place"; so whatever the event's fields
 abbrev pub in_time : Bool → ℕ → Call → Event → Outcome

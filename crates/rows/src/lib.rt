@@ -51,7 +51,7 @@ pub enum RevState {
 }
 
 // 02 #103: "A number now also states its nature, national or international".
-#[derive(Clone, Copy)]
+#[derive(Clone, Copy, PartialEq, Eq)]
 pub enum Nature {
     National,
     International,
@@ -59,7 +59,7 @@ pub enum Nature {
 
 // A telephone number: its nature, the count of its digits, and its value. Two with the same digits, one at home and one abroad, are
 // two numbers.
-#[derive(Clone, Copy)]
+#[derive(Clone, Copy, PartialEq, Eq)]
 pub struct Number {
     pub nature: Nature,
     pub count: u8,

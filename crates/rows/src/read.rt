@@ -4,24 +4,15 @@ ghost use Rattle.rows.specs.Read.{flags_of, asked_of, told_of, heard_of, kind_of
 ghost use Rattle.rows.specs.Read.{read_of, cue_of, listed_of, interaction_by, judged_by, mode_by, extent_by, service_by, correct_by, terms_of};
 
 use crate::numbers::{
-    ACCEPTED, ALREADY_RUNNING, ANM, AS_TRANSFER, BASIC_SERVICE_NOT_PROVIDED, CALLED_REQUEST,
-    CALLING_REQ_ACTIVE, CALLING_REQ_SETUP, CON, IAM, INTERACTION_NOT_ALLOWED, NORMAL_CLEARING,
-    NOT_AVAILABLE, REJECTED_BY_NETWORK, REJECTED_BY_USER, REL, RESOURCE_UNAVAILABLE, USER_IGNORED,
-    USER_NOT_SUBSCRIBED,
+    ACCEPTED, ALREADY_RUNNING, ANM, AS_TRANSFER, BASIC_SERVICE_NOT_PROVIDED, CALLED_PART,
+    CALLED_REQUEST, CALLING_PART, CALLING_REQ_ACTIVE, CALLING_REQ_SETUP, CON, DURATION_PART, IAM,
+    INTERACTION_NOT_ALLOWED, NORMAL_CLEARING, NOT_AVAILABLE, PARTIAL, REJECTED_BY_NETWORK,
+    REJECTED_BY_USER, REL, RESOURCE_UNAVAILABLE, USER_IGNORED, USER_NOT_SUBSCRIBED, has,
 };
 use crate::{
     ABSENT, Asked, Component, Correctness, Cue, Event, Extent, Flags, Heard, Interaction, Judged,
     Kind, Message, Mode, Reading, Service, Stand, Terms, Told,
 };
-
-// 01, kind 3: the parts that a row looks for one by one, beside those that numbers.rt has.
-const PARTIAL: u8 = 8;
-
-const CALLING: u8 = 16;
-
-const CALLED: u8 = 32;
-
-const DURATION: u8 = 64;
 
 // 01, kind 1: 1 transfer, 2 subscription option, 4 subscribed, 8 interaction allowed, 16 case D.
 pub(crate) fn flags_of(n: u8) -> Flags
@@ -29,10 +20,10 @@ pub(crate) fn flags_of(n: u8) -> Flags
 {
     Flags {
         transfer: n % 2 == 1,
-        option: (n / 2) % 2 == 1,
-        subscribed: (n / 4) % 2 == 1,
-        interaction: (n / 8) % 2 == 1,
-        unconditional: (n / 16) % 2 == 1,
+        option: has(n, 2),
+        subscribed: has(n, 4),
+        interaction: has(n, 8),
+        unconditional: has(n, 16),
     }
 }
 
@@ -303,7 +294,7 @@ pub(crate) fn terms_of(f: Flags, at: Stand, r: Reading) -> Terms
     ensures { result ≡ terms_of f at r }
 {
     let transfer_asked = r.parts % 2 == 1;
-    let transfer_accepted = (r.parts / ACCEPTED) % 2 == 1 && (r.parts / AS_TRANSFER) % 2 == 1;
+    let transfer_accepted = has(r.parts, ACCEPTED) && has(r.parts, AS_TRANSFER);
     Terms {
         interaction: Interaction::from(f.interaction),
         judged: judged_by(f.option && !f.subscribed, f.interaction),
@@ -311,12 +302,12 @@ pub(crate) fn terms_of(f: Flags, at: Stand, r: Reading) -> Terms
         service: Service::from(f.unconditional),
         taken: Mode::from(f.transfer && transfer_asked),
         accepted: Mode::from(f.transfer && transfer_accepted),
-        extent: Extent::from((r.parts / PARTIAL) % 2 == 1),
+        extent: Extent::from(has(r.parts, PARTIAL)),
         agreed: Mode::from(at.agreed),
         asked: Extent::from(at.rest),
-        called: transfer_asked || (r.parts / CALLED) % 2 == 1,
-        calling: (r.parts / CALLING) % 2 == 1,
-        duration: (r.parts / DURATION) % 2 == 1,
+        called: transfer_asked || has(r.parts, CALLED_PART),
+        calling: has(r.parts, CALLING_PART),
+        duration: has(r.parts, DURATION_PART),
         correct: Correctness::from(listed(r.error)),
         error: r.error,
         cause: r.cause,
