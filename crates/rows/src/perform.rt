@@ -6,8 +6,8 @@ ghost use Rattle.rows.specs.Perform.{refused_at, refused_of, given_of, follows_o
 
 use crate::numbers::{APPLIED, CALLED_PART, CALLING_PART, DURATION_PART, TOO_MUCH, has};
 use crate::{
-    ABSENT, Act, Call, Component, Next, Note, Number, Outcome, Phase, Plan, Reading, Register,
-    RevState, Role, Side, Stand, read,
+    ABSENT, Act, Call, Component, Flags, Next, Note, Number, Outcome, Phase, Plan, Reading,
+    Register, RevState, Role, Side, Stand,
 };
 use meters::{Meters, Payer};
 
@@ -100,7 +100,7 @@ fn opened(r: Reading) -> Side
         } else {
             Role::Originating
         },
-        flags: read::flags_of(r.flags),
+        flags: Flags::from(r.flags),
         own: r.own,
         calling: ABSENT,
         called: ABSENT,

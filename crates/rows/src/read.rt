@@ -15,41 +15,47 @@ use crate::{
 };
 
 // 01, kind 1: 1 transfer, 2 subscription option, 4 subscribed, 8 interaction allowed, 16 case D.
-pub(crate) fn flags_of(n: u8) -> Flags
-    ensures { result ≡ flags_of n }
-{
-    Flags {
-        transfer: n % 2 == 1,
-        option: has(n, 2),
-        subscribed: has(n, 4),
-        interaction: has(n, 8),
-        unconditional: has(n, 16),
+impl From<u8> for Flags {
+    ghost from_gives = { λ n given. given ≡ flags_of n };
+
+    fn from(n: u8) -> Self {
+        Flags {
+            transfer: n % 2 == 1,
+            option: has(n, 2),
+            subscribed: has(n, 4),
+            interaction: has(n, 8),
+            unconditional: has(n, 16),
+        }
     }
 }
 
 // 01, kind 2: 0 basic call, 1 A, 2 B, 3 C.
-fn asked_of(n: u8) -> Asked
-    ensures { result ≡ asked_of n }
-{
-    Asked {
-        basic: n == 0,
-        casea: n == 1,
-        caseb: n == 2,
-        casec: n == 3,
-        reversal: matches!(n, 1..=3),
+impl From<u8> for Asked {
+    ghost from_gives = { λ n given. given ≡ asked_of n };
+
+    fn from(n: u8) -> Self {
+        Asked {
+            basic: n == 0,
+            casea: n == 1,
+            caseb: n == 2,
+            casec: n == 3,
+            reversal: matches!(n, 1..=3),
+        }
     }
 }
 
 // 01, kind 4: 1 accept, 2 error, 3 reject, 4 clear, 5 answer without REV.
-fn told_of(n: u8) -> Told
-    ensures { result ≡ told_of n }
-{
-    Told {
-        accepts: n == 1,
-        refuses: n == 2,
-        rejects: n == 3,
-        clears: n == 4,
-        answers: n == 5,
+impl From<u8> for Told {
+    ghost from_gives = { λ n given. given ≡ told_of n };
+
+    fn from(n: u8) -> Self {
+        Told {
+            accepts: n == 1,
+            refuses: n == 2,
+            rejects: n == 3,
+            clears: n == 4,
+            answers: n == 5,
+        }
     }
 }
 
@@ -67,36 +73,38 @@ const NOTHING_HEARD: Heard = Heard {
     rejection: false,
 };
 
-fn heard_of(component: Component) -> Heard
-    ensures { result ≡ heard_of component }
-{
-    match component {
-        Component::Absent(_) => Heard {
-            alone: true,
-            ..NOTHING_HEARD
-        },
-        Component::Invoke(n) => Heard {
-            invoke: true,
-            invokesetup: n == CALLING_REQ_SETUP,
-            invokeactive: n == CALLING_REQ_ACTIVE,
-            invokecalled: n == CALLED_REQUEST,
-            ..NOTHING_HEARD
-        },
-        Component::Result(n) => Heard {
-            resultsetup: n == CALLING_REQ_SETUP,
-            resultactive: n == CALLING_REQ_ACTIVE,
-            resultcalled: n == CALLED_REQUEST,
-            ..NOTHING_HEARD
-        },
-        Component::Error(_) => Heard {
-            failure: true,
-            ..NOTHING_HEARD
-        },
-        Component::Reject(_) => Heard {
-            rejection: true,
-            ..NOTHING_HEARD
-        },
-        Component::Unknown(_, _) => NOTHING_HEARD,
+impl From<Component> for Heard {
+    ghost from_gives = { λ component given. given ≡ heard_of component };
+
+    fn from(component: Component) -> Self {
+        match component {
+            Component::Absent(_) => Heard {
+                alone: true,
+                ..NOTHING_HEARD
+            },
+            Component::Invoke(n) => Heard {
+                invoke: true,
+                invokesetup: n == CALLING_REQ_SETUP,
+                invokeactive: n == CALLING_REQ_ACTIVE,
+                invokecalled: n == CALLED_REQUEST,
+                ..NOTHING_HEARD
+            },
+            Component::Result(n) => Heard {
+                resultsetup: n == CALLING_REQ_SETUP,
+                resultactive: n == CALLING_REQ_ACTIVE,
+                resultcalled: n == CALLED_REQUEST,
+                ..NOTHING_HEARD
+            },
+            Component::Error(_) => Heard {
+                failure: true,
+                ..NOTHING_HEARD
+            },
+            Component::Reject(_) => Heard {
+                rejection: true,
+                ..NOTHING_HEARD
+            },
+            Component::Unknown(_, _) => NOTHING_HEARD,
+        }
     }
 }
 
@@ -140,60 +148,66 @@ fn only(kind: Kind) -> Reading
     }
 }
 
-pub(crate) fn read(e: Event) -> Reading
-    ensures { result ≡ read_of e }
-{
-    match e {
-        Event::Opening(role, flags, own) => Reading {
-            item: role,
-            flags,
-            own,
-            ..only(Kind::Opens)
-        },
-        Event::Ask(item, called) => Reading {
-            item,
-            called,
-            ..only(Kind::Asks)
-        },
-        Event::Received(m) => read_message(m),
-        // The access gives no cause: 16 if none.
-        Event::FromAccess(item, error) => Reading {
-            item,
-            error,
-            cause: NORMAL_CLEARING,
-            ..only(Kind::Tells)
-        },
-        Event::Expiry => only(Kind::Expires),
-        Event::Time(seconds) => Reading {
-            seconds,
-            ..only(Kind::Passes)
-        },
+impl From<Event> for Reading {
+    ghost from_gives = { λ e given. given ≡ read_of e };
+
+    fn from(e: Event) -> Self {
+        match e {
+            Event::Opening(role, flags, own) => Reading {
+                item: role,
+                flags,
+                own,
+                ..only(Kind::Opens)
+            },
+            Event::Ask(item, called) => Reading {
+                item,
+                called,
+                ..only(Kind::Asks)
+            },
+            Event::Received(m) => Reading::from(m),
+            // The access gives no cause: 16 if none.
+            Event::FromAccess(item, error) => Reading {
+                item,
+                error,
+                cause: NORMAL_CLEARING,
+                ..only(Kind::Tells)
+            },
+            Event::Expiry => only(Kind::Expires),
+            Event::Time(seconds) => Reading {
+                seconds,
+                ..only(Kind::Passes)
+            },
+        }
     }
 }
 
-fn read_message(m: Message) -> Reading
-    ensures { result ≡ read_message m }
-{
-    Reading {
-        component: m.component,
-        parts: m.parts,
-        error: error_of(m.component),
-        cause: m.cause,
-        seconds: m.duration,
-        calling: m.calling,
-        called: m.called,
-        ..only(kind_of(m.kind))
+impl From<Message> for Reading {
+    ghost from_gives = { λ m given. given ≡ read_message m };
+
+    fn from(m: Message) -> Self {
+        Reading {
+            component: m.component,
+            parts: m.parts,
+            error: error_of(m.component),
+            cause: m.cause,
+            seconds: m.duration,
+            calling: m.calling,
+            called: m.called,
+            ..only(kind_of(m.kind))
+        }
     }
 }
 
-pub(crate) fn cue_of(r: Reading) -> Cue
-    ensures { result ≡ cue_of r }
-{
-    Cue {
-        kind: r.kind,
-        asked: asked_of(r.item),
-        heard: heard_of(r.component),
-        told: told_of(r.item),
+impl From<Reading> for Cue {
+    ghost from_gives = { λ r given. given ≡ cue_of r };
+
+    fn from(r: Reading) -> Self {
+        Cue {
+            kind: r.kind,
+            asked: Asked::from(r.item),
+            heard: Heard::from(r.component),
+            told: Told::from(r.item),
+        }
     }
 }
 

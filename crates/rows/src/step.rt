@@ -5,8 +5,8 @@ ghost use Rattle.rows.specs.Valid.{event_ok};
 
 use crate::numbers::{BAD_FIELD, BEFORE_OPENING, NOT_A_CALL, SLOT_IN_USE};
 use crate::{
-    ABSENT, Call, Event, Flags, Outcome, Phase, RevState, Role, Side, Stand, find, read, rows,
-    valid, why,
+    ABSENT, Call, Cue, Event, Flags, Outcome, Phase, Reading, RevState, Role, Side, Stand, find,
+    read, rows, valid, why,
 };
 use meters::Meters;
 
@@ -50,8 +50,8 @@ impl Call {
     fn takes(self, e: Event) -> Outcome
         ensures { result ≡ takes_of self e }
     {
-        let r = read::read(e);
-        let cue = read::cue_of(r);
+        let r = Reading::from(e);
+        let cue = Cue::from(r);
         match find::row_for(self.side.role, self.stand.phase, self.stand.rev, cue) {
             Some(row) => {
                 let terms = read::terms_of(self.side.flags, self.stand, r);
