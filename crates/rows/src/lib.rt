@@ -360,6 +360,7 @@ pub struct Terms {
 }
 
 // What a row does. number: 0, or the refusal.
+// Kept: the number, for of all rows only eight may lack a part (`needs`), and each plan of the others would stand in a Some.
 #[derive(Clone, Copy)]
 pub struct Plan {
     pub number: u8,

@@ -130,6 +130,7 @@ fn has_ever(r: Role, e: Cue) -> bool
 }
 
 // The number for an event that found no row in this phase.
+// Kept: the number itself, as a host in C is given it (rev.h) and `why_of` has it.
 pub(crate) fn why(r: Role, p: Phase, e: Cue) -> u8
     ensures { result ≡ why_of r p e }
 {
