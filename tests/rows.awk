@@ -251,7 +251,7 @@ name == "Find.antt" && table != "" && (/^ / || /^[a-z_]+_of [A-Z][a-z]+ e =/) {
     }
     row = ""
     n = split(code, part, /[ ()]+/)
-    for (i = 1; i <= n; i++) if (part[i] ~ /^[A-Z]/ && part[i] != "NoRow" && row == "") row = part[i]
+    for (i = 1; i <= n; i++) if (part[i] ~ /^[A-Z]/ && part[i] !~ /^(Some|None)$/ && row == "") row = part[i]
     n = labels(comment_of($0))
     if (row == "" && n) wrong("specs/Find.antt, " table " " now ": " found[1] " beside no row")
     if (row == "") next
@@ -609,7 +609,7 @@ END {
     for (key in found_word) not_so("specs/Find.antt", key)
     for (key in in_enum) not_so("src/lib.rt", key)
     for (key in in_code) not_so("src/rows.rt", key)
-    for (row in variant) if (row != "NoRow" && !(row in plan_at)) wrong("specs/Rows.antt has no plan_of " row)
+    for (row in variant) if (!(row in plan_at)) wrong("specs/Rows.antt has no plan_of " row)
     for (i = 1; i <= lines; i++) {
         split(left_of[i], part, / /)
         head = part[1]

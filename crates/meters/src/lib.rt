@@ -4,14 +4,14 @@
 #![tactic(auto)]
 
 ghost use Rattle.std.specs.Prelude.{◌≡◌};
-ghost use Rattle.meters.specs.Meters.{new_of, within_of, total_within_of, adds_up_of, paid_by_of, adds_of, give_of, entire_of, received_of};
+ghost use Rattle.meters.specs.Meters.{new_of, sum_of, within_of, total_within_of, adds_up_of, paid_by_of, adds_of, give_of, entire_of, received_of};
 ghost use Rattle.meters.specs.Meters.{change_of};
 
 // 01, number 2: no sum of meters, and no Duration that a row uses, may pass this many seconds; 02 #104: nor may the total.
 const LIMIT: u64 = 31536000;
 
 // Whose meter runs.
-#[derive(Clone, Copy)]
+#[derive(Clone, Copy, PartialEq, Eq)]
 pub enum Payer {
     Nobody,
     Caller,
@@ -44,13 +44,6 @@ pub enum Change {
     DurationReceived,
 }
 
-// What a change gives: the meters that follow, or that a limit would be passed.
-#[derive(Clone, Copy)]
-pub enum Metered {
-    Done(Meters),
-    TooMuch,
-}
-
 impl Meters {
     // A call that has not been answered.
     pub fn new() -> Self
@@ -65,72 +58,66 @@ impl Meters {
         }
     }
 
+    fn sum(self) -> u64
+        ensures { result ≡ sum_of self }
+    {
+        self.caller as u64 + self.called as u64 + self.far as u64
+    }
+
     // The sum of the meters is within the limit.
     pub fn within(self) -> bool
         ensures { result ≡ within_of self }
     {
-        (self.caller as u64) + (self.called as u64) + (self.far as u64) <= LIMIT
+        self.sum() <= LIMIT
     }
 
     // The total is within the limit.
     pub fn total_within(self) -> bool
         ensures { result ≡ total_within_of self }
     {
-        (self.total as u64) <= LIMIT
+        self.total as u64 <= LIMIT
     }
 
     // The three meters add up to the total.
     pub fn adds_up(self) -> bool
         ensures { result ≡ adds_up_of self }
     {
-        (self.caller as u64) + (self.called as u64) + (self.far as u64) == (self.total as u64)
+        self.sum() == self.total as u64
     }
 
     // Charging starts, goes over to another payer, or stops: the seconds stay where they are.
     pub fn paid_by(self, payer: Payer) -> Self
         ensures { result ≡ paid_by_of self payer }
     {
-        Meters {
-            caller: self.caller,
-            called: self.called,
-            far: self.far,
-            payer: payer,
-            total: self.total,
-        }
+        Meters { payer, ..self }
     }
 
-    // Seconds onto each meter, and those that the call has lasted onto the total, unless the sum or the total would then pass the limit. Only
-    // here does either grow.
-    fn adds(self, caller: u32, called: u32, far: u32, lasted: u32) -> Metered
+    // Seconds onto each meter, and those that the call has lasted onto the total; None where the sum or the total would then pass the
+    // limit. Only here does either grow.
+    fn adds(self, caller: u32, called: u32, far: u32, lasted: u32) -> Option<Self>
         ensures { result ≡ adds_of self caller called far lasted }
     {
-        let payer = self.payer;
-        let sum = (self.caller as u64) + (self.called as u64) + (self.far as u64);
-        let more = (caller as u64) + (called as u64) + (far as u64);
-        let total = (self.total as u64) + (lasted as u64);
-        if LIMIT < sum + more {
-            return Metered::TooMuch;
+        let more = caller as u64 + called as u64 + far as u64;
+        if self.sum() + more <= LIMIT && self.total as u64 + lasted as u64 <= LIMIT {
+            Some(Meters {
+                caller: self.caller + caller,
+                called: self.called + called,
+                far: self.far + far,
+                total: self.total + lasted,
+                ..self
+            })
+        } else {
+            None
         }
-        if LIMIT < total {
-            return Metered::TooMuch;
-        }
-        Metered::Done(Meters {
-            caller: self.caller + caller,
-            called: self.called + called,
-            far: self.far + far,
-            payer: payer,
-            total: self.total + lasted,
-        })
     }
 
     // Time passes in the answered call: the payer's meter takes all of the seconds, and the total has them too. Where nobody pays neither
     // runs.
-    pub fn give(self, seconds: u32) -> Metered
+    pub fn give(self, seconds: u32) -> Option<Self>
         ensures { result ≡ give_of self seconds }
     {
-        let payer = self.payer;
-        match payer {
-            Payer::Nobody => Metered::Done(self),
+        match self.payer {
+            Payer::Nobody => Some(self),
             Payer::Caller => self.adds(seconds, 0, 0, seconds),
             Payer::Called => self.adds(0, seconds, 0, seconds),
             Payer::Far => self.adds(0, 0, seconds, seconds),
@@ -139,45 +126,42 @@ impl Meters {
 
     // Case C: another payer, and the caller's meter is emptied; `called` and `far` are the seconds that those meters take. (The caller's, all
     // of them, go to one of both: `change`.)
-    fn entire(self, payer: Payer, called: u32, far: u32) -> Metered
+    fn entire(self, payer: Payer, called: u32, far: u32) -> Option<Self>
         ensures { result ≡ entire_of self payer called far }
     {
         let emptied = Meters {
             caller: 0,
-            called: self.called,
-            far: self.far,
-            payer: payer,
-            total: self.total,
+            payer,
+            ..self
         };
         emptied.adds(0, called, far, 0)
     }
 
     // Case C in transfer mode, at the destination: on the meters the Duration received stands for all seconds so far. The total has this
     // exchange's own.
-    pub fn received(self, duration: u32) -> Metered
+    pub fn received(self, duration: u32) -> Option<Self>
         ensures { result ≡ received_of self duration }
     {
         let emptied = Meters {
-            caller: self.caller,
             called: 0,
             far: 0,
             payer: Payer::Called,
-            total: self.total,
+            ..self
         };
         emptied.adds(0, duration, 0, 0)
     }
 
-    // One change, with the seconds that passed or were received.
-    pub fn change(self, change: Change, seconds: u32) -> Metered
+    // One change, with the seconds that passed or were received; None where a limit would be passed.
+    pub fn change(self, change: Change, seconds: u32) -> Option<Self>
         ensures { result ≡ change_of change self seconds }
     {
         match change {
-            Change::Keep => Metered::Done(self),
-            Change::Begin => Metered::Done(Meters::new()),
-            Change::CallerPays => Metered::Done(self.paid_by(Payer::Caller)),
-            Change::CalledPays => Metered::Done(self.paid_by(Payer::Called)),
-            Change::FarPays => Metered::Done(self.paid_by(Payer::Far)),
-            Change::NobodyPays => Metered::Done(self.paid_by(Payer::Nobody)),
+            Change::Keep => Some(self),
+            Change::Begin => Some(Meters::new()),
+            Change::CallerPays => Some(self.paid_by(Payer::Caller)),
+            Change::CalledPays => Some(self.paid_by(Payer::Called)),
+            Change::FarPays => Some(self.paid_by(Payer::Far)),
+            Change::NobodyPays => Some(self.paid_by(Payer::Nobody)),
             Change::EntireToCalled => self.entire(Payer::Called, self.caller, 0),
             Change::EntireToFar => self.entire(Payer::Far, 0, self.caller),
             Change::TimePasses => self.give(seconds),

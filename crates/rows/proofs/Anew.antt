@@ -4,6 +4,7 @@ use mathlib.Core.Path.{◌≡◌, refl, sym, ◌∙◌, ap, subst}
 use mathlib.Core.Bool.{Bool, true, false}
 use mathlib.Core.Logic.{◌↔◌}
 use Prim.Native.Nat.{ℕ}
+use Rattle.std.specs.Prelude.{Option, Some}
 use Rattle.rows.specs.Find.{row_for_of}
 use Rattle.rows.specs.Promises.{AsFresh}
 use Rattle.rows.specs.Read.{read_of, cue_of}
@@ -27,7 +28,7 @@ use Rattle.rows.proofs.Truth.{both, differ, left, right}
 
 -- the opening's row, in either role, before the opening and after the clearing
 the_row : (r : Role) (p : Phase) (s : RevState) (k f : ℕ) (n : Number) → may_open p ≡ true →
-    row_for_of r p s (cue_of (read_of (Opening k f n))) ≡ Row.Opened
+    row_for_of r p s (cue_of (read_of (Opening k f n))) ≡ Some Row.Opened
 the_row Originating Unopened s k f n h = refl
 the_row Originating Null s k f n h = differ h
 the_row Originating Setup s k f n h = differ h
@@ -42,7 +43,7 @@ the_row Destination Cleared s k f n h = refl
 module _ (c : Call) (k f : ℕ) (n : Number) where
   -- its plan takes nothing from the call
   takes_anew : may_open c.stand.phase ≡ true → takes_of c (Opening k f n) ≡ takes_of unopened_call (Opening k f n)
-  takes_anew h = ap (λ (x : Row). taken_by x c (read_of (Opening k f n))) (the_row c.side.role c.stand.phase c.stand.rev k f n h)
+  takes_anew h = ap (λ (x : Option Row). taken_by x c (read_of (Opening k f n))) (the_row c.side.role c.stand.phase c.stand.rev k f n h)
 
   in_time_lem : may_open c.stand.phase ≡ true → Timely c (Opening k f n)
   in_time_lem h = (λ i. vacant_is c.stand.phase h, λ i. differ (sym i))

@@ -4,16 +4,13 @@ use mathlib.Core.Path.{◌≡◌, refl, sym, ◌∙◌, ap}
 use mathlib.Core.Bool.{Bool, true, false}
 use Prim.Native.Nat.{ℕ}
 use lib.Dec.{eqb}
-use borrow.Author.Tests.{ne_eqb}
-use Rattle.meters.specs.declared.Metered.{Metered}
-use Rattle.meters.specs.declared.Metered.TheVariants.{Done, TooMuch}
+use Rattle.std.specs.Prelude.{Option, Some, None}
 use Rattle.meters.specs.declared.Meters.{Meters}
 use Rattle.rows.specs.Find.{row_for_of}
 use Rattle.rows.specs.Perform.{refused_at, refused_of, follows_of, settled_of, perform_of}
 use Rattle.rows.specs.Promises.{place_in}
 use Rattle.rows.specs.Read.{read_of, cue_of, terms_of}
-use Rattle.rows.specs.Rows.{plan_of}
-use Rattle.rows.specs.Step.{if_row, takes_of, if_in_range, is_opening, untimely_of, in_time, if_timely, if_call, step_of}
+use Rattle.rows.specs.Step.{planned, if_row, takes_of, if_in_range, is_opening, untimely_of, in_time, if_timely, if_call, step_of}
 use Rattle.rows.specs.Valid.{pickℕ, valid_of, event_ok, bad_field_of}
 use Rattle.rows.specs.Why.{is_row, row_in, row_ever, why_of}
 use Rattle.rows.specs.declared.Call.{Call}
@@ -26,75 +23,26 @@ use Rattle.rows.specs.declared.Plan.{Plan}
 use Rattle.rows.specs.declared.Reading.{Reading}
 use Rattle.rows.specs.declared.Role.{Role}
 use Rattle.rows.specs.declared.Row.{Row}
-use Rattle.rows.specs.declared.Row.TheVariants.{NoRow, Opened, TimeInSetup, TimeCounts, ClearedHere, Released, RunningHere}
-use Rattle.rows.specs.declared.Row.TheVariants.{RunningThere, BasicRequest, AskSetup, BasicAnswer, UnconditionalAsked}
-use Rattle.rows.specs.declared.Row.TheVariants.{SetupAccepted, SetupError, SetupReleased, SetupFailed, UnconditionalAnswered}
-use Rattle.rows.specs.declared.Row.TheVariants.{AskActive, CalledAsked, ActiveAccepted, WaitError, WaitFailed, WaitReleased}
-use Rattle.rows.specs.declared.Row.TheVariants.{PlainIam, SetupAsked, AnsweredHere, SetupConfirmed, SetupRefused, SetupRejected}
-use Rattle.rows.specs.declared.Row.TheVariants.{SetupIgnored, SetupExpired, UnconditionalAccepted, UnconditionalFailed}
-use Rattle.rows.specs.declared.Row.TheVariants.{UnconditionalConnected, ActiveAsked, AskPartial, AskEntire, ActiveConfirmed}
-use Rattle.rows.specs.declared.Row.TheVariants.{ActiveRefused, ActiveRejected, ActiveIgnored, ActiveCleared, CalledAccepted}
 use Rattle.rows.specs.declared.Terms.{Terms}
 use Rattle.rows.proofs.Truth.{differ}
 
 -- 2 is a refusal; else the meters that follow are those of the change
-pub settled : (P : Outcome → Type 0) (x : Metered) (c : Call) (p : Plan) (r : Reading) →
-    ((n : Meters) → x ≡ Done n → P (follows_of c p r n)) → P (refused_of 2 c) → P (settled_of x c p r)
-settled P (Done n) c p r h i = h n refl
-settled P TooMuch c p r h i = i
+pub settled : (P : Outcome → Type 0) (x : Option Meters) (c : Call) (p : Plan) (r : Reading) →
+    ((n : Meters) → x ≡ Some n → P (follows_of c p r n)) → P (refused_of 2 c) → P (settled_of x c p r)
+settled P (Some n) c p r h i = h n refl
+settled P None c p r h i = i
 
 -- the plan of the row that an event finds, and what comes of it
 abbrev pub plan_for : Call → Event → Plan
-plan_for c e = plan_of (row_for_of c.side.role c.stand.phase c.stand.rev (cue_of (read_of e))) (terms_of c.side.flags c.stand (read_of e))
+plan_for c e = planned (row_for_of c.side.role c.stand.phase c.stand.rev (cue_of (read_of e))) (terms_of c.side.flags c.stand (read_of e))
 
 abbrev pub performed : Call → Event → Outcome
 performed c e = perform_of c (plan_for c e) (read_of e)
 
--- a row is there, or it is NoRow
-pub row_or_none : (P : Row → Type 0) (x : Row) → (is_row x ≡ true → P x) → P NoRow → P x
-row_or_none P NoRow h n = n
-row_or_none P Opened h n = h refl
-row_or_none P TimeInSetup h n = h refl
-row_or_none P TimeCounts h n = h refl
-row_or_none P ClearedHere h n = h refl
-row_or_none P Released h n = h refl
-row_or_none P RunningHere h n = h refl
-row_or_none P RunningThere h n = h refl
-row_or_none P BasicRequest h n = h refl
-row_or_none P AskSetup h n = h refl
-row_or_none P BasicAnswer h n = h refl
-row_or_none P UnconditionalAsked h n = h refl
-row_or_none P SetupAccepted h n = h refl
-row_or_none P SetupError h n = h refl
-row_or_none P SetupReleased h n = h refl
-row_or_none P SetupFailed h n = h refl
-row_or_none P UnconditionalAnswered h n = h refl
-row_or_none P AskActive h n = h refl
-row_or_none P CalledAsked h n = h refl
-row_or_none P ActiveAccepted h n = h refl
-row_or_none P WaitError h n = h refl
-row_or_none P WaitFailed h n = h refl
-row_or_none P WaitReleased h n = h refl
-row_or_none P PlainIam h n = h refl
-row_or_none P SetupAsked h n = h refl
-row_or_none P AnsweredHere h n = h refl
-row_or_none P SetupConfirmed h n = h refl
-row_or_none P SetupRefused h n = h refl
-row_or_none P SetupRejected h n = h refl
-row_or_none P SetupIgnored h n = h refl
-row_or_none P SetupExpired h n = h refl
-row_or_none P UnconditionalAccepted h n = h refl
-row_or_none P UnconditionalFailed h n = h refl
-row_or_none P UnconditionalConnected h n = h refl
-row_or_none P ActiveAsked h n = h refl
-row_or_none P AskPartial h n = h refl
-row_or_none P AskEntire h n = h refl
-row_or_none P ActiveConfirmed h n = h refl
-row_or_none P ActiveRefused h n = h refl
-row_or_none P ActiveRejected h n = h refl
-row_or_none P ActiveIgnored h n = h refl
-row_or_none P ActiveCleared h n = h refl
-row_or_none P CalledAccepted h n = h refl
+-- a row is there, or there is none
+pub row_or_none : (P : Option Row → Type 0) (x : Option Row) → (is_row x ≡ true → P x) → P None → P x
+row_or_none P (Some row) h n = h refl
+row_or_none P None h n = n
 
 -- what is refused before a plan is carried out
 pub record Refusing (P : Outcome → Type 0) (c : Call) : Type 0 where
@@ -118,7 +66,7 @@ module _ (P : Outcome → Type 0) (c : Call) (e : Event) (j : Refusing P c) wher
   pub if_row_lem : P (performed c e) → P (takes_of c e)
   if_row_lem h = go (is_row found)
     where
-      found : Row
+      found : Option Row
       found = row_for_of c.side.role c.stand.phase c.stand.rev (cue_of (read_of e))
 
       go : (b : Bool) → P (if_row b found c (read_of e))
@@ -183,33 +131,11 @@ opened_then f Cleared h i = refl
 -- a plan that does not refuse for want of a row is a row's, and it is carried out
 pub has_plan : (c : Call) (e : Event) → eqb (plan_for c e).number 1 ≡ false → takes_of c e ≡ performed c e
 has_plan c e =
-    row_or_none (λ (x : Row). eqb (plan_of x terms).number 1 ≡ false → if_row (is_row x) x c (read_of e) ≡ perform_of c (plan_of x terms) (read_of e)) found
+    row_or_none (λ (x : Option Row). eqb (planned x terms).number 1 ≡ false → if_row (is_row x) x c (read_of e) ≡ perform_of c (planned x terms) (read_of e)) found
     (λ h i. ap (λ (b : Bool). if_row b found c (read_of e)) h) (λ i. differ (sym i))
   where
     terms : Terms
     terms = terms_of c.side.flags c.stand (read_of e)
 
-    found : Row
+    found : Option Row
     found = row_for_of c.side.role c.stand.phase c.stand.rev (cue_of (read_of e))
-
--- ---- what the code learns on its way to a row
-
-module _ (c : Call) (e : Event) (r : Reading) (q : Cue) (x : Row) (g : r ≡ read_of e) (h : q ≡ cue_of r)
-    (i : x ≡ row_for_of c.side.role c.stand.phase c.stand.rev q) where
-  abbrev found : Row
-  found = row_for_of c.side.role c.stand.phase c.stand.rev (cue_of (read_of e))
-
-  is_found : (a b : Bool) → a ≡ is_row x → a ≡ b → is_row found ≡ b
-  is_found a b j k = sym (ap is_row (i ∙ ap (row_for_of c.side.role c.stand.phase c.stand.rev) (h ∙ ap cue_of g))) ∙ sym j ∙ k
-
-  pub row_there : (a : Bool) → a ≡ is_row x → a ≡ true → performed c e ≡ takes_of c e
-  row_there a j k = sym (ap (λ (b : Bool). if_row b found c (read_of e)) (is_found a true j k))
-
-  pub row_missing : (a : Bool) → a ≡ is_row x → a ≡ false → refused_of (why_of c.side.role c.stand.phase (cue_of (read_of e))) c ≡ takes_of c e
-  row_missing a j k = sym (ap (λ (b : Bool). if_row b found c (read_of e)) (is_found a false j k))
-
--- .. and before it, whether the event comes in its time
-module _ (c : Call) (e : Event) (v : valid_of c ≡ true) (n : ℕ) (g : n ≡ untimely_of c.stand.phase (is_opening e)) where
-  pub step_untimely : (n ≡ 0 → ⊥) → refused_of n c ≡ step_of c e
-  step_untimely h =
-      sym (ap (λ (x : Bool). if_call x c e) v ∙ ap (λ (k : ℕ). in_time (eqb k 0) k c e) (sym g) ∙ ap (λ (x : Bool). in_time x n c e) (ne_eqb n 0 h))

@@ -8,9 +8,9 @@ use Prim.Native.Nat.{ℕ, ◌+◌, ◌≤◌}
 use native.Mathlib.Omega.{arith}
 use lib.Dec.{eqb, leb}
 use borrow.Author.Tests.{eqb-true, eqb-false, eq-eqb, leb-true}
+use Rattle.std.specs.Prelude.{Option, Some, None}
 use Rattle.meters.proofs.Laws.{gave, received}
 use Rattle.meters.specs.Meters.{new_of, paid_by_of, give_of, received_of}
-use Rattle.meters.specs.declared.Metered.TheVariants.{Done}
 use Rattle.meters.specs.declared.Meters.{Meters}
 use Rattle.meters.specs.declared.Payer.{Payer}
 use Rattle.meters.specs.declared.Payer.TheVariants.{Nobody, Called, Far}
@@ -25,7 +25,7 @@ use Rattle.rows.specs.Read.{bit, lowest, flags_of, heard_of, kind_by, read_of, c
 use Rattle.rows.specs.Read.{mode_by, extent_by, service_by, correct_by}
 use Rattle.rows.specs.Rows
 use Rattle.rows.specs.Rows.{plan_of}
-use Rattle.rows.specs.Step.{unopened_call, if_in_range, step_of}
+use Rattle.rows.specs.Step.{planned, unopened_call, if_in_range, step_of}
 use Rattle.rows.specs.Telephone.{absent}
 use Rattle.rows.specs.Valid.{payer_there, event_ok}
 use Rattle.rows.specs.declared.Call.{Call}
@@ -116,12 +116,12 @@ Good f b g c w x e o = Agrees f o.call (remembers b w (written c e o)) (counts g
 abbrev Does : ℕ → Bool → Bool → Call → Bool → ℕ → Event → Plan → Type 0
 Does f b g c w x e p = Good f b g c w x e (perform_of c p (read_of e))
 
-abbrev Fine : ℕ → Bool → Bool → Call → Bool → ℕ → Event → Row → Type 0
-Fine f b g c w x e row = Does f b g c w x e (plan_of row (terms_of c.side.flags c.stand (read_of e)))
+abbrev Fine : ℕ → Bool → Bool → Call → Bool → ℕ → Event → Option Row → Type 0
+Fine f b g c w x e row = Does f b g c w x e (planned row (terms_of c.side.flags c.stand (read_of e)))
 
 -- ---- What the meters promise
 
-ticks : {m n : Meters} {x : ℕ} (s : ℕ) → Right m x → give_of m s ≡ Done n → Right n (x + s)
+ticks : {m n : Meters} {x : ℕ} (s : ℕ) → Right m x → give_of m s ≡ Some n → Right n (x + s)
 ticks {m} {n} {x} s z h =
     let g = gave m n s (somebody Destination m.payer z.there) h in
     let p = not_callers m.payer s z.there in
@@ -130,7 +130,7 @@ ticks {m} {n} {x} s z h =
 switches : {m : Meters} {x : ℕ} (p : Payer) → payer_there p ≡ true → Sum m x → Right (paid_by_of m p) x
 switches p h z = record { there = h; sums = record { caller = z.caller; both = z.both } }
 
-receives_duration : {m n : Meters} {x : ℕ} (s : ℕ) → Sum m x → received_of m s ≡ Done n → Right n s
+receives_duration : {m n : Meters} {x : ℕ} (s : ℕ) → Sum m x → received_of m s ≡ Some n → Right n s
 receives_duration {m} {n} s z h =
     let g = received m n s h in
     record { there = ap payer_there g.payer; sums = record { caller = g.caller ∙ z.caller; both = omega (arith, g.called, g.far) } }
@@ -282,20 +282,20 @@ reopens f k h n (over y) u = differ (sym u)
 
 -- a request in the answered call: B (2), C (3) or neither
 module _ (f q : ℕ) (n u v z : Number) (a r w : Bool) {m : Meters} {x : ℕ} (y : Right m x) where
-  abbrev Asks : Bool → Row → Type 0
+  abbrev Asks : Bool → Option Row → Type 0
   Asks b row = Fine f b false (at f u v z Answered Idle a r m) w x (Ask q n) row
 
-  asks_called : (i : Bool) → eqb q 2 ≡ i → Asks (eqb q 3) (when i Row.AskPartial (when (eqb q 3) Row.AskEntire Row.NoRow))
+  asks_called : (i : Bool) → eqb q 2 ≡ i → Asks (eqb q 3) (when i Row.AskPartial (when (eqb q 3) Row.AskEntire None))
   asks_called true h =
-      subst (λ (b : Bool). Asks b Row.AskPartial) (sym (ap (λ (k : ℕ). eqb k 3) (eqb-true q 2 h)))
+      subst (λ (b : Bool). Asks b (Some Row.AskPartial)) (sym (ap (λ (k : ℕ). eqb k 3) (eqb-true q 2 h)))
       (plan_called f u v z a r w false q n y true (judged_by (bit 2 f && not (bit 4 f)) (bit 8 f)) (mode_by (lowest f)))
   asks_called false h =
       fork Asks (eqb q 3) _ _ (plan_called f u v z a r w false q n y false (judged_by (bit 2 f && not (bit 4 f)) (bit 8 f)) (mode_by (lowest f))) (search states)
 
 -- where a further request, A, B or C, is answered that it is running
-again : (f q : ℕ) (n : Number) (c : Call) (w : Bool) (x : ℕ) → Fine f (eqb q 3) false c w x (Ask q n) Row.RunningHere →
-    Fine f (eqb q 3) false c w x (Ask q n) Row.NoRow →
-    Fine f (eqb q 3) false c w x (Ask q n) (when (leb 1 q && leb q 3) Row.RunningHere Row.NoRow)
+again : (f q : ℕ) (n : Number) (c : Call) (w : Bool) (x : ℕ) → Fine f (eqb q 3) false c w x (Ask q n) (Some Row.RunningHere) →
+    Fine f (eqb q 3) false c w x (Ask q n) None →
+    Fine f (eqb q 3) false c w x (Ask q n) (when (leb 1 q && leb q 3) Row.RunningHere None)
 again f q n c w x = split (Fine f (eqb q 3) false c w x (Ask q n)) (leb 1 q && leb q 3) _ _
 
 asks : (f q : ℕ) (n : Number) {c : Call} {w : Bool} {x : ℕ} → Agrees f c w x → Kept f c w x (Ask q n)
@@ -329,14 +329,14 @@ module _ (f : ℕ) (l : Message) (ok : event_ok (Received l) ≡ true) where
   abbrev G : Bool
   G = heard_in f (Received l)
 
-  abbrev P : Call → Bool → ℕ → Row → Type 0
+  abbrev P : Call → Bool → ℕ → Option Row → Type 0
   P c w x row = Fine f false G c w x (Received l) row
 
-  abbrev K : Call → Bool → ℕ → (Kind → Cue → Row) → Kind → Type 0
+  abbrev K : Call → Bool → ℕ → (Kind → Cue → Option Row) → Kind → Type 0
   K c w x table k = P c w x (table k (cue_of (read_of (Received l))))
 
   -- where the result to CALLED is what is tested
-  abbrev OnResult : Call → Bool → ℕ → Bool → Row → Type 0
+  abbrev OnResult : Call → Bool → ℕ → Bool → Option Row → Type 0
   OnResult c w x b row = Fine f false (b && transferred f l) c w x (Received l) row
 
   abbrev OnFac : Call → Bool → ℕ → Kind → Bool → Type 0

@@ -8,9 +8,8 @@ use Prim.Native.Nat.{ℕ, ◌≤◌}
 use native.Mathlib.Omega.{arith}
 use lib.Dec.{eqb, ltb, leb}
 use borrow.Author.Tests.{leb-true, ne_eqb}
+use Rattle.std.specs.Prelude.{Option, Some, None}
 use Rattle.meters.specs.Meters.{change_of, within_of}
-use Rattle.meters.specs.declared.Metered.{Metered}
-use Rattle.meters.specs.declared.Metered.TheVariants.{Done, TooMuch}
 use Rattle.meters.specs.declared.Meters.{Meters}
 use Rattle.rows.specs.History.{run, history}
 use Rattle.rows.specs.Perform.{refused_at, side_of, or_held, settled_of, perform_if, applies_of}
@@ -126,9 +125,9 @@ module _ (k : Kind) (i g pt er ca s : ℕ) (x : Component) where
     registered CalledNumber to after = renumbered a b (held h c)
     registered CallingNumber to after = renumbered a (held e b) c
 
-    settles : (y : Metered) (p : Plan) →
+    settles : (y : Option Meters) (p : Plan) →
         SameAnswer (settled_of y (holding r f at m u v w) p (reading n o q)) (settled_of y (holding r f at m u' v' w') p (reading n' o' q'))
-    settles (Done after) p =
+    settles (Some after) p =
         record {
           number = refl;
           field = refl;
@@ -143,7 +142,7 @@ module _ (k : Kind) (i g pt er ca s : ℕ) (x : Component) where
           parts = refl;
           duration = refl;
         }
-    settles TooMuch p = refused 2 0 (renumbered a b c)
+    settles None p = refused 2 0 (renumbered a b c)
 
     performs : (y : Bool) (p : Plan) →
         SameAnswer (perform_if y (holding r f at m u v w) p (reading n o q)) (perform_if y (holding r f at m u' v' w') p (reading n' o' q'))
@@ -187,12 +186,12 @@ opening_alike expiry = refl
 opening_alike time = refl
 
 -- a row is found for both, or for neither
-by_row : (b : Bool) (x : Row) {c d : Call} (r r' : Reading) → SameAnswer (if_row true x c r) (if_row true x d r') →
+by_row : (b : Bool) (x : Option Row) {c d : Call} (r r' : Reading) → SameAnswer (if_row true x c r) (if_row true x d r') →
     SameAnswer (if_row false x c r) (if_row false x d r') → SameAnswer (if_row b x c r) (if_row b x d r')
 by_row true x r r' h i = h
 by_row false x r r' h i = i
 
-abbrev row_for : Call → Event → Row
+abbrev row_for : Call → Event → Option Row
 row_for c e = row_for_of c.side.role c.stand.phase c.stand.rev (cue_of (read_of e))
 
 -- the same row is found and planned for both: neither looks at a number

@@ -7,8 +7,8 @@ use mathlib.Core.Bool.{Bool, true, false, ◌&&◌, ◌||◌, not}
 use Prim.Native.Nat.{ℕ}
 use lib.Dec.{eqb}
 use borrow.Author.Tests.{not-true}
+use Rattle.std.specs.Prelude.{Option, Some, None}
 use Rattle.meters.specs.Meters.{change_of}
-use Rattle.meters.specs.declared.Metered.TheVariants.{Done}
 use Rattle.meters.specs.declared.Meters.{Meters}
 use Rattle.rows.specs.Find.{when, vacant_of, originating_null_of, originating_setup_idle_of, wait_setup_of, originating_wait_answer_of}
 use Rattle.rows.specs.Find.{originating_answered_idle_of, wait_active_of, active_of, destination_null_of, destination_setup_idle_of}
@@ -18,7 +18,7 @@ use Rattle.rows.specs.Perform.{refused_at, refused_of, follows_of, perform_if}
 use Rattle.rows.specs.Read.{read_of, cue_of, terms_of}
 use Rattle.rows.specs.Rows
 use Rattle.rows.specs.Rows.{plan_of}
-use Rattle.rows.specs.Step.{is_opening, if_call, step_of}
+use Rattle.rows.specs.Step.{planned, is_opening, if_call, step_of}
 use Rattle.rows.specs.Valid.{placed_of, valid_of, event_ok}
 use Rattle.rows.specs.Why.{is_row}
 use Rattle.rows.specs.declared.Call.{Call}
@@ -46,7 +46,7 @@ use Rattle.rows.specs.declared.RevState.TheVariants.{WaitCalled}
 use Rattle.rows.specs.declared.Role.{Role}
 use Rattle.rows.specs.declared.Role.TheVariants.{Originating, Destination}
 use Rattle.rows.specs.declared.Row.{Row}
-use Rattle.rows.specs.declared.Row.TheVariants.{NoRow, Opened, TimeInSetup, TimeCounts, ClearedHere, Released, RunningHere}
+use Rattle.rows.specs.declared.Row.TheVariants.{Opened, TimeInSetup, TimeCounts, ClearedHere, Released, RunningHere}
 use Rattle.rows.specs.declared.Row.TheVariants.{RunningThere, BasicRequest, AskSetup, BasicAnswer, UnconditionalAsked, SetupAccepted}
 use Rattle.rows.specs.declared.Row.TheVariants.{SetupError, SetupReleased, SetupFailed, UnconditionalAnswered, AskActive}
 use Rattle.rows.specs.declared.Row.TheVariants.{CalledAsked, ActiveAccepted, WaitError, WaitFailed, WaitReleased, PlainIam}
@@ -71,11 +71,11 @@ so true b h e = h
 so false b h e = cc
 
 -- a row that a test of the tables chooses; with the test in what is said of it
-pub split : (P : Row → Type 0) (b : Bool) (x y : Row) → P x → P y → P (when b x y)
+pub split : (P : Option Row → Type 0) (b : Bool) (x : Row) (y : Option Row) → P (Some x) → P y → P (when b x y)
 split P true x y p q = p
 split P false x y p q = q
 
-pub fork : (P : Bool → Row → Type 0) (b : Bool) (x y : Row) → P true x → P false y → P b (when b x y)
+pub fork : (P : Bool → Option Row → Type 0) (b : Bool) (x : Row) (y : Option Row) → P true (Some x) → P false y → P b (when b x y)
 fork P true x y p q = p
 fork P false x y p q = q
 
@@ -88,11 +88,11 @@ pub record Tried {A : Type 0} (g : A → Bool) (x : A) : Type 0 where
 abbrev one : {A : Type 0} {g : A → Bool} {x : A} → Tried g x
 one {A} {g} {x} = record { test = g x; law = λ h. h }
 
-pub branch : (g : Row → Bool) (b : Bool) (x y : Row) (v w : Bool) → (v ≡ true → g x ≡ true) → (w ≡ true → g y ≡ true) → (v && w) ≡ true →
-    g (when b x y) ≡ true
-branch g b x y v w p q h = split (λ (z : Row). g z ≡ true) b x y (p (left v w h)) (q (right v w h))
+pub branch : (g : Option Row → Bool) (b : Bool) (x : Row) (y : Option Row) (v w : Bool) → (v ≡ true → g (Some x) ≡ true) → (w ≡ true → g y ≡ true) →
+    (v && w) ≡ true → g (when b x y) ≡ true
+branch g b x y v w p q h = split (λ (z : Option Row). g z ≡ true) b x y (p (left v w h)) (q (right v w h))
 
-abbrev either : {g : Row → Bool} {x y : Row} (b : Bool) → Tried g x → Tried g y → Tried g (when b x y)
+abbrev either : {g : Option Row → Bool} {x : Row} {y : Option Row} (b : Bool) → Tried g (Some x) → Tried g y → Tried g (when b x y)
 either {g} {x} {y} b p q = record { test = p.test && q.test; law = branch g b x y p.test q.test p.law q.law }
 
 -- a word with few values, and a test tried on all of them
@@ -171,7 +171,6 @@ by_4 as-a as-b as-c as-d p a b c d = by as-a (λ x. p x b c d) (λ x. by_3 as-b 
 -- ---- Every plan of a row
 
 abbrev pub plans : (g : Plan → Bool) (t : Terms) (x : Row) → Tried g (plan_of x t)
-plans g t NoRow = one
 plans g t Opened = one
 plans g t TimeInSetup = one
 plans g t TimeCounts = one
@@ -215,9 +214,14 @@ plans g t ActiveIgnored = one
 plans g t ActiveCleared = one
 plans g t CalledAccepted = by_4 extents modes booleans booleans Rows.called_accepted t.asked t.accepted t.calling t.duration
 
+-- and where there may be no row
+abbrev pub found_plans : (g : Plan → Bool) (t : Terms) (x : Option Row) → Tried g (planned x t)
+found_plans g t (Some row) = plans g t row
+found_plans g t None = one
+
 -- ---- Every row of a place
 
-pub record Place (g : Kind → Row → Bool) (t : Kind → Row) : Type 0 where
+pub record Place (g : Kind → Option Row → Bool) (t : Kind → Option Row) : Type 0 where
   pub test : Bool
   pub law : test ≡ true → (k : Kind) → g k (t k) ≡ true
 
@@ -237,7 +241,7 @@ kinds h e Expires = left (h Expires) _ (right (h Tells) _ (right (h Fac) _ (righ
 kinds h e Passes = right (h Expires) _ (right (h Tells) _ (right (h Fac) _ (right (h Rel) _ (right (h Answer) _
     (right (h Iam) _ (right (h Asks) _ (right (h Opens) _ e)))))))
 
-module _ (g : Kind → Row → Bool) (t : Kind → Row) (o : Tried (g Opens) (t Opens)) (a : Tried (g Asks) (t Asks)) (i : Tried (g Iam) (t Iam))
+module _ (g : Kind → Option Row → Bool) (t : Kind → Option Row) (o : Tried (g Opens) (t Opens)) (a : Tried (g Asks) (t Asks)) (i : Tried (g Iam) (t Iam))
     (w : Tried (g Answer) (t Answer)) (r : Tried (g Rel) (t Rel)) (f : Tried (g Fac) (t Fac)) (d : Tried (g Tells) (t Tells))
     (x : Tried (g Expires) (t Expires)) (p : Tried (g Passes) (t Passes)) where
   -- by the kind of an event
@@ -260,7 +264,7 @@ module _ (g : Kind → Row → Bool) (t : Kind → Row) (o : Tried (g Opens) (t 
         law = λ h k. (cell k).law (kinds (λ k'. (cell k').test) h k);
       }
 
-module _ (g : Kind → Row → Bool) (e : Cue) where
+module _ (g : Kind → Option Row → Bool) (e : Cue) where
   abbrev vacant : Place g (λ (k : Kind). vacant_of k e)
   vacant =
       table g (λ k. vacant_of k e) one one one one one one one one one
@@ -346,7 +350,7 @@ module _ (g : Kind → Row → Bool) (e : Cue) where
       (either e.heard.invoke one (either e.heard.resultcalled one (either e.heard.failure one
       (either e.heard.rejection one one)))) (either e.told.clears one one) one one
 
-  abbrev here : {t : Kind → Row} → Place g t → Tried (g e.kind) (t e.kind)
+  abbrev here : {t : Kind → Option Row} → Place g t → Tried (g e.kind) (t e.kind)
   here p = record { test = p.test; law = λ h. p.law h e.kind }
 
   abbrev walk : (r : Role) (p : Phase) (s : RevState) → Tried (g e.kind) (row_for_of r p s e)
@@ -449,8 +453,8 @@ Test = Role → Stand → Kind → Plan → Bool
 abbrev at : Phase → RevState → Bool → Bool → Stand
 at p s a b = record { phase = p; rev = s; agreed = a; rest = b }
 
-abbrev row_test : Test → Terms → Role → Stand → Kind → Row → Bool
-row_test f t r now k x = (plans (f r now k) t x).test
+abbrev row_test : Test → Terms → Role → Stand → Kind → Option Row → Bool
+row_test f t r now k x = (found_plans (f r now k) t x).test
 
 abbrev pub everywhere : Test → Cue → Terms → Bool → Bool → Bool
 everywhere f e t a b = every_role (λ r. every_phase (λ p. every_rev (λ s. (walk (row_test f t r (at p s a b)) e r p s).test)))
@@ -458,40 +462,40 @@ everywhere f e t a b = every_role (λ r. every_phase (λ p. every_rev (λ s. (wa
 -- a test that holds everywhere holds of the plan that any event finds
 pub found : (f : Test) → ((e : Cue) (t : Terms) (a b : Bool) → everywhere f e t a b ≡ true) →
     (r : Role) (now : Stand) (e : Cue) (t : Terms) →
-    f r now e.kind (plan_of (row_for_of r now.phase now.rev e) t) ≡ true
+    f r now e.kind (planned (row_for_of r now.phase now.rev e) t) ≡ true
 found f h r now e t =
     let k = rev (λ s. (walk (row_test f t r (at now.phase s now.agreed now.rest)) e r now.phase s).test)
     (phase (λ p. every_rev (λ s. (walk (row_test f t r (at p s now.agreed now.rest)) e r p s).test))
     (role (λ r'. every_phase (λ p. every_rev (λ s. (walk (row_test f t r' (at p s now.agreed now.rest)) e r' p s).test)))
     (h e t now.agreed now.rest) r) now.phase) now.rev in
-    (plans (f r now e.kind) t (row_for_of r now.phase now.rev e)).law
+    (found_plans (f r now e.kind) t (row_for_of r now.phase now.rev e)).law
     ((walk (row_test f t r now) e r now.phase now.rev).law k)
 
 -- a row's plan applies, or it lacks a part: 0 or 4
-abbrev of_rows : Terms → Row → Bool
-of_rows t x = implies (is_row x) (plans (λ p. eqb p.number 0 || eqb p.number 4) t x).test
+abbrev of_rows : Terms → Option Row → Bool
+of_rows t x = implies (is_row x) (found_plans (λ p. eqb p.number 0 || eqb p.number 4) t x).test
 
 pub row_plans : (r : Role) (p : Phase) (s : RevState) (e : Cue) (t : Terms) → is_row (row_for_of r p s e) ≡ true →
-    (eqb (plan_of (row_for_of r p s e) t).number 0 || eqb (plan_of (row_for_of r p s e) t).number 4) ≡ true
+    (eqb (planned (row_for_of r p s e) t).number 0 || eqb (planned (row_for_of r p s e) t).number 4) ≡ true
 row_plans r p s e t h =
     let k = rev (λ s'. (walk (λ k. of_rows t) e r p s').test)
     (phase (λ p'. every_rev (λ s'. (walk (λ k. of_rows t) e r p' s').test))
     (role (λ r'. every_phase (λ p'. every_rev (λ s'. (walk (λ k. of_rows t) e r' p' s').test))) refl r) p) s in
-    (plans (λ x. eqb x.number 0 || eqb x.number 4) t (row_for_of r p s e)).law (so _ _ ((walk (λ k. of_rows t) e r p s).law k) h)
+    (found_plans (λ x. eqb x.number 0 || eqb x.number 4) t (row_for_of r p s e)).law (so _ _ ((walk (λ k. of_rows t) e r p s).law k) h)
 
 -- a test of the plan that one event finds, at every place that 01 allows
 abbrev pub wherever : (Role → Phase → RevState → Plan → Bool) → Cue → Terms → Bool
 wherever g e t =
-    every_role (λ r. every_phase (λ p. every_rev (λ s. implies (placed_of r p s) (plans (g r p s) t (row_for_of r p s e)).test)))
+    every_role (λ r. every_phase (λ p. every_rev (λ s. implies (placed_of r p s) (found_plans (g r p s) t (row_for_of r p s e)).test)))
 
 pub at_place : (g : Role → Phase → RevState → Plan → Bool) (e : Cue) (t : Terms) → wherever g e t ≡ true →
-    (r : Role) (p : Phase) (s : RevState) → placed_of r p s ≡ true → g r p s (plan_of (row_for_of r p s e) t) ≡ true
+    (r : Role) (p : Phase) (s : RevState) → placed_of r p s ≡ true → g r p s (planned (row_for_of r p s e) t) ≡ true
 at_place g e t h r p s i =
-    (plans (g r p s) t (row_for_of r p s e)).law
+    (found_plans (g r p s) t (row_for_of r p s e)).law
     (so (placed_of r p s) _
-    (rev (λ s'. implies (placed_of r p s') (plans (g r p s') t (row_for_of r p s' e)).test)
-    (phase (λ p'. every_rev (λ s'. implies (placed_of r p' s') (plans (g r p' s') t (row_for_of r p' s' e)).test))
-    (role (λ r'. every_phase (λ p'. every_rev (λ s'. implies (placed_of r' p' s') (plans (g r' p' s') t (row_for_of r' p' s' e)).test))) h r) p) s) i)
+    (rev (λ s'. implies (placed_of r p s') (found_plans (g r p s') t (row_for_of r p s' e)).test)
+    (phase (λ p'. every_rev (λ s'. implies (placed_of r p' s') (found_plans (g r p' s') t (row_for_of r p' s' e)).test))
+    (role (λ r'. every_phase (λ p'. every_rev (λ s'. implies (placed_of r' p' s') (found_plans (g r' p' s') t (row_for_of r' p' s' e)).test))) h r) p) s) i)
 
 -- ---- A step is a refusal, or the plan carried out
 
@@ -504,7 +508,7 @@ pub record Applied (c : Call) (e : Event) (n : Meters) : Type 0 where
   pub valid : valid_of c ≡ true
   pub ranged : event_ok e ≡ true
   pub row : eqb (plan_for c e).number 0 ≡ true
-  pub meters : change_of (plan_for c e).change c.meters (read_of e).seconds ≡ Done n
+  pub meters : change_of (plan_for c e).change c.meters (read_of e).seconds ≡ Some n
 
 -- no plan has the number 9
 abbrev unlike_nine : Test

@@ -9,9 +9,9 @@ use mathlib.Core.Path.{◌≡◌, refl, sym, ap, subst, ◌∙◌}
 use Prim.Native.Nat.{ℕ}
 use lib.Dec.{leb, eqb}
 use borrow.Author.Tests.{eq-eqb}
+use Rattle.std.specs.Prelude.{Option, Some, None}
+use Rattle.meters.specs.declared.Meters.{Meters}
 use Rattle.meters.specs.Meters.{change_of}
-use Rattle.meters.specs.declared.Metered.{Metered}
-use Rattle.meters.specs.declared.Metered.TheVariants.{Done, TooMuch}
 use Rattle.rows.specs.Perform.{refused_at, if_there, or_held, opened_of, stand_of, side_of, settled_of, perform_if, applies_of}
 use Rattle.rows.specs.Promises.{OneOf, this, later, own_in, calling_in, called_in, named_by, PassedOn, HeldOr, Keeps, OnlyOwn, HoldsOrClears, place_in}
 use Rattle.rows.specs.Read.{bit, read_of}
@@ -97,8 +97,8 @@ module _ (c : Call) (e : Event) where
   refused : (n k : ℕ) → PassedOn c e (refused_at n k c)
   refused n k = record { calling_sent = refl; called_sent = refl; own_held = this; calling_held = this; called_held = this }
 
-  settled : (m : Metered) (p : Plan) → PassedOn c e (settled_of m c p (read_of e))
-  settled (Done after) p =
+  settled : (m : Option Meters) (p : Plan) → PassedOn c e (settled_of m c p (read_of e))
+  settled (Some after) p =
       record {
         calling_sent = sent (bit 16 p.parts) c.side.own;
         called_sent = sent (bit 32 p.parts) c.side.own;
@@ -112,7 +112,7 @@ module _ (c : Call) (e : Event) where
             subst (λ (n : Number). OneOf (side_of p.register c.side (read_of e)).called (c.side.called ∷ n ∷ absent ∷ [])) (called_read e)
             (called_held p.register c.side (read_of e));
       }
-  settled TooMuch p = refused 2 0
+  settled None p = refused 2 0
 
   performs : (b : Bool) (p : Plan) → PassedOn c e (perform_if b c p (read_of e))
   performs true p = settled (change_of p.change c.meters (read_of e).seconds) p

@@ -7,11 +7,11 @@ use mathlib.Core.Bool.{Bool, true, false, ◌&&◌, ◌||◌, not}
 use mathlib.Core.List.{List}
 use Prim.Native.Nat.{ℕ}
 use lib.Dec.{eqb}
+use Rattle.std.specs.Prelude.{Some}
 use Rattle.meters.proofs.Laws.{gave, is, is_that}
 use Rattle.meters.specs.Meters.{paid_by_of, change_of}
 use Rattle.meters.specs.declared.Change.{Change}
 use Rattle.meters.specs.declared.Change.TheVariants.{Keep, FarPays, TimePasses}
-use Rattle.meters.specs.declared.Metered.TheVariants.{Done}
 use Rattle.meters.specs.declared.Meters.{Meters}
 use Rattle.meters.specs.declared.Payer.{Payer}
 use Rattle.meters.specs.declared.Payer.TheVariants.{Nobody, Caller, Called, Far}
@@ -115,8 +115,8 @@ nine_by_payer c p e v = nine_exactly (with_payer p c) e ∙ ap not (valid_with c
 abbrev leaves : Change → Bool
 leaves x = is Keep x || is TimePasses x
 
-module _ (m n : Meters) (x : Change) (s : ℕ) (h : change_of x m s ≡ Done n) where
-  as_that : (y : Change) → is y x ≡ true → change_of y m s ≡ Done n
+module _ (m n : Meters) (x : Change) (s : ℕ) (h : change_of x m s ≡ Some n) where
+  as_that : (y : Change) → is y x ≡ true → change_of y m s ≡ Some n
   as_that y i = ap (λ (z : Change). change_of z m s) (is_that y x i) ∙ h
 
   left_alone : (m.payer ≡ Nobody → ⊥) → leaves x ≡ true → n.payer ≡ m.payer
@@ -155,7 +155,7 @@ still_before Setup q a = differ a
 still_before Answered q a = refl
 still_before Cleared q a = refl
 
-by_phase : (m n : Meters) (x : Change) (s : ℕ) → change_of x m s ≡ Done n → (ph : Phase) → (is_answered ph ≡ true → m.payer ≡ Nobody → ⊥) →
+by_phase : (m n : Meters) (x : Change) (s : ℕ) → change_of x m s ≡ Some n → (ph : Phase) → (is_answered ph ≡ true → m.payer ≡ Nobody → ⊥) →
     as_phase ph x ≡ true → n.payer ≡ as_before ph m.payer
 by_phase m n x s h Unopened p k = differ k
 by_phase m n x s h Null p k = differ k

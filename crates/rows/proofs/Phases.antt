@@ -6,6 +6,7 @@ use Prim.Native.Nat.{ℕ, ◌≤◌}
 use native.Mathlib.Omega.{arith}
 use lib.Dec.{eqb, leb}
 use borrow.Author.Tests.{leb-true}
+use Rattle.std.specs.Prelude.{Option, Some}
 use Rattle.rows.specs.Bill.{is_answered, is_rev, result_to}
 use Rattle.rows.specs.Find.{when, originating_setup_of, destination_setup_of, row_for_of}
 use Rattle.rows.specs.Perform.{stand_of}
@@ -17,7 +18,7 @@ use Rattle.rows.specs.declared.Message.{Message}
 use Rattle.rows.specs.Read.{kind_by, heard_of, read_of, cue_of, terms_of}
 use Rattle.rows.specs.Rows
 use Rattle.rows.specs.Rows.{plan_of}
-use Rattle.rows.specs.Step.{is_opening, step_of}
+use Rattle.rows.specs.Step.{planned, is_opening, step_of}
 use Rattle.rows.specs.declared.Call.{Call}
 use Rattle.rows.specs.declared.Correctness.{Correctness}
 use Rattle.rows.specs.declared.Correctness.TheVariants.{Correct, Incorrect}
@@ -183,18 +184,18 @@ entering r now k p =
     (implies (not (is_answered now.phase)) (implies (is_answered (after now p)) (is_setup now.phase && awaited r now.rev k)))
 
 -- where a table's first test alone leads to g, it passed
-only : (g : Row → Bool) (b : Bool) (x y : Row) → g y ≡ false → g (when b x y) ≡ true → b ≡ true
+only : (g : Option Row → Bool) (b : Bool) (x : Row) (y : Option Row) → g y ≡ false → g (when b x y) ≡ true → b ≡ true
 only g true x y h e = refl
 only g false x y h e = sym h ∙ e
 
-neither : (g : Row → Bool) (b : Bool) (x y : Row) → g x ≡ false → g y ≡ false → g (when b x y) ≡ false
+neither : (g : Option Row → Bool) (b : Bool) (x : Row) (y : Option Row) → g (Some x) ≡ false → g y ≡ false → g (when b x y) ≡ false
 neither g true x y p q = p
 neither g false x y p q = q
 
 module _ (t : Terms) (a b : Bool) where
   -- the row leads from SETUP to ANSWERED
-  abbrev leads : RevState → Row → Bool
-  leads s x = is_answered (after (record { phase = Setup; rev = s; agreed = a; rest = b }) (plan_of x t))
+  abbrev leads : RevState → Option Row → Bool
+  leads s x = is_answered (after (record { phase = Setup; rev = s; agreed = a; rest = b }) (planned x t))
 
   -- the own access's word k, where no other event leads there
   by_word : (k : ℕ) (s : RevState) →
@@ -290,7 +291,7 @@ answered_entered c e h =
           (right (is_setup c.stand.phase) _ k)
           (subst
           (λ (x : Phase). is_answered (after (record { phase = x; rev = c.stand.rev; agreed = c.stand.agreed; rest = c.stand.rest })
-          (plan_of (row_for_of c.side.role x c.stand.rev (cue_of (read_of e))) (terms_of c.side.flags c.stand (read_of e)))) ≡ true)
+          (planned (row_for_of c.side.role x c.stand.rev (cue_of (read_of e))) (terms_of c.side.flags c.stand (read_of e)))) ≡ true)
           p l);
     })
 

@@ -6,10 +6,9 @@ use Prim.Native.Nat.{ℕ, ◌+◌, ◌≤◌}
 use native.Mathlib.Omega.{arith}
 use lib.Dec.{eqb, leb}
 use borrow.Author.Tests.{eqb-true, leb-true, le-leb}
+use Rattle.std.specs.Prelude.{Option, Some, None}
 use Rattle.meters.proofs.Laws.{fits, gave_fits, too_much, entire_fits, duration_fits}
 use Rattle.meters.specs.Meters.{limit, sum_of, give_of}
-use Rattle.meters.specs.declared.Metered.{Metered}
-use Rattle.meters.specs.declared.Metered.TheVariants.{Done, TooMuch}
 use Rattle.meters.specs.declared.Meters.{Meters}
 use Rattle.meters.specs.declared.Payer.TheVariants.{Nobody, Called, Far}
 use Rattle.rows.specs.Bill.{result_to, invoke_of, is_answered}
@@ -56,13 +55,13 @@ valid_place c v = left _ _ v
 -- ---- Time
 
 -- the number given back where the meters' answer decides it
-abbrev number_by : Metered → ℕ
-number_by (Done n) = 0
-number_by TooMuch = 2
+abbrev number_by : Option Meters → ℕ
+number_by (Some n) = 0
+number_by None = 2
 
-settled_number : (x : Metered) (c : Call) (p : Plan) (r : Reading) → (settled_of x c p r).number ≡ number_by x
-settled_number (Done n) c p r = refl
-settled_number TooMuch c p r = refl
+settled_number : (x : Option Meters) (c : Call) (p : Plan) (r : Reading) → (settled_of x c p r).number ≡ number_by x
+settled_number (Some n) c p r = refl
+settled_number None c p r = refl
 
 -- a call at an exchange, in a phase and REV state
 abbrev pub standing : Role → Flags → Phase → RevState → Bool → Bool → Meters → Number → Number → Number → Call
@@ -88,9 +87,9 @@ time_number c s v h d =
     c.side.role c.stand.phase c.stand.rev (valid_place c v) (ap is_answered h)
 
 -- 2 is given exactly where the sum or the total would pass the limit ..
-too_much_exactly : (m : Meters) (s : ℕ) → (m.payer ≡ Nobody → ⊥) → (x : Metered) → give_of m s ≡ x → eqb (number_by x) 2 ≡ not (fits m s)
-too_much_exactly m s p (Done n) e = sym (ap not (gave_fits m n s p e))
-too_much_exactly m s p TooMuch e = sym (ap not (too_much m s e))
+too_much_exactly : (m : Meters) (s : ℕ) → (m.payer ≡ Nobody → ⊥) → (x : Option Meters) → give_of m s ≡ x → eqb (number_by x) 2 ≡ not (fits m s)
+too_much_exactly m s p (Some n) e = sym (ap not (gave_fits m n s p e))
+too_much_exactly m s p None e = sym (ap not (too_much m s e))
 
 pub time_two_exactly : (c : Call) (s : ℕ) → valid_of c ≡ true → c.stand.phase ≡ Answered → s ≤ 86400 →
     eqb (step_of c (Time s)).number 2 ≡ not (leb (sum_of c.meters + s) limit && leb (total_of c + s) limit)
@@ -99,9 +98,9 @@ time_two_exactly c s v h d =
     ∙ too_much_exactly c.meters s (answered_paid c v (ap is_answered h)) (give_of c.meters s) refl
 
 -- .. and else it is accepted
-fitting : (m : Meters) (s : ℕ) → fits m s ≡ true → (x : Metered) → give_of m s ≡ x → number_by x ≡ 0
-fitting m s f (Done n) e = refl
-fitting m s f TooMuch e = differ (sym (too_much m s e) ∙ f)
+fitting : (m : Meters) (s : ℕ) → fits m s ≡ true → (x : Option Meters) → give_of m s ≡ x → number_by x ≡ 0
+fitting m s f (Some n) e = refl
+fitting m s f None e = differ (sym (too_much m s e) ∙ f)
 
 pub time_accepted : (c : Call) (s : ℕ) → valid_of c ≡ true → c.stand.phase ≡ Answered → s ≤ 86400 →
     sum_of c.meters + s ≤ limit → total_of c + s ≤ limit → (step_of c (Time s)).number ≡ 0
@@ -141,11 +140,11 @@ module _ (c : Call) (r : Reading) where
   called_asked_lem l true false true true h = record { number = refl; phase = refl; rev = refl }
   called_asked_lem l true true true true h = record { number = refl; phase = refl; rev = refl }
   called_asked_lem l true false true false h =
-      entire_fits (λ (x : Metered). InEffect (settled_of x c (Rows.called_asked Allowed Entire NoTransfer true) r)) c.meters Called c.meters.caller 0
+      entire_fits (λ (x : Option Meters). InEffect (settled_of x c (Rows.called_asked Allowed Entire NoTransfer true) r)) c.meters Called c.meters.caller 0
       (omega arith) l.0 l.1
       (λ n. record { number = refl; phase = refl; rev = refl })
   called_asked_lem l true true true false h =
-      entire_fits (λ (x : Metered). InEffect (settled_of x c (Rows.called_asked Allowed Entire Transfer true) r)) c.meters Far 0 c.meters.caller
+      entire_fits (λ (x : Option Meters). InEffect (settled_of x c (Rows.called_asked Allowed Entire Transfer true) r)) c.meters Far 0 c.meters.caller
       (omega arith) l.0 l.1
       (λ n. record { number = refl; phase = refl; rev = refl })
 
@@ -154,7 +153,7 @@ module _ (c : Call) (r : Reading) where
   called_accepted_lem z false n b d h = record { number = refl; phase = refl; rev = refl }
   called_accepted_lem z true true true d h = record { number = refl; phase = refl; rev = refl }
   called_accepted_lem z true true false true h =
-      duration_fits (λ (x : Metered). InEffect (settled_of x c (Rows.called_accepted Entire Transfer true true) r)) c.meters r.seconds
+      duration_fits (λ (x : Option Meters). InEffect (settled_of x c (Rows.called_accepted Entire Transfer true true) r)) c.meters r.seconds
       (omega (arith, z.0, leb-true r.seconds limit h)) z.1 (λ n. record { number = refl; phase = refl; rev = refl })
   called_accepted_lem z true true false false h = differ h
   called_accepted_lem z true false b d h = differ h

@@ -6,6 +6,7 @@ use mathlib.Core.Logic.{◌↔◌, ◌⊎◌, inl, inr}
 use Prim.Native.Nat.{ℕ}
 use lib.Dec.{eqb}
 use borrow.Author.Tests.{eqb-true, eq-eqb}
+use Rattle.std.specs.Prelude.{Option, None}
 use Rattle.meters.specs.Meters.{change_of}
 use Rattle.rows.specs.Bill.{an_opening}
 use Rattle.rows.specs.Find.{row_for_of}
@@ -35,7 +36,6 @@ use Rattle.rows.specs.declared.RevState.TheVariants.{WaitCalled}
 use Rattle.rows.specs.declared.Role.{Role}
 use Rattle.rows.specs.declared.Role.TheVariants.{Originating, Destination}
 use Rattle.rows.specs.declared.Row.{Row}
-use Rattle.rows.specs.declared.Row.TheVariants.{NoRow}
 use Rattle.rows.proofs.Answers.{plan_for, performed, settled, row_or_none, by_why, is_unopened, row_decides}
 use Rattle.rows.proofs.Found.{row_plans}
 use Rattle.rows.proofs.Progress.{valid_place}
@@ -107,7 +107,7 @@ pub data Way (c : Call) (e : Event) : Outcome → Type 0 where
   a_row : Looked c e → is_row (row_at c.side.role c.stand.phase c.stand.rev e) ≡ true → Way c e (performed c e)
 
 module _ (c : Call) (e : Event) where
-  abbrev row : Row
+  abbrev row : Option Row
   row = row_at c.side.role c.stand.phase c.stand.rev e
 
   by_row : Looked c e → (b : Bool) → is_row row ≡ b → Way c e (if_row b row c (read_of e))
@@ -311,14 +311,14 @@ which_phase f h =
     either (f Null) _ h (λ i. (Null, i)) (λ h.
     either (f Setup) _ h (λ i. (Setup, i)) (λ h. either (f Answered) _ h (λ i. (Answered, i)) (λ i. (Cleared, i)))))
 
-is_row_lem : (x : Row) → (x ≡ NoRow → ⊥) → is_row x ≡ true
-is_row_lem x = row_or_none (λ (y : Row). (y ≡ NoRow → ⊥) → is_row y ≡ true) x (λ h i. h) (λ i. absurd (i refl))
+is_row_lem : (x : Option Row) → (x ≡ None → ⊥) → is_row x ≡ true
+is_row_lem x = row_or_none (λ (y : Option Row). (y ≡ None → ⊥) → is_row y ≡ true) x (λ h i. h) (λ i. absurd (i refl))
 
-not_none : (x : Row) → is_row x ≡ true → x ≡ NoRow → ⊥
+not_none : (x : Option Row) → is_row x ≡ true → x ≡ None → ⊥
 not_none x h i = differ (sym (ap is_row i) ∙ h)
 
-is_none : (x : Row) → is_row x ≡ false → x ≡ NoRow
-is_none x = row_or_none (λ (y : Row). is_row y ≡ false → y ≡ NoRow) x (λ h i. differ (sym i ∙ h)) (λ i. refl)
+is_none : (x : Option Row) → is_row x ≡ false → x ≡ None
+is_none x = row_or_none (λ (y : Option Row). is_row y ≡ false → y ≡ None) x (λ h i. differ (sym i ∙ h)) (λ i. refl)
 
 module _ (r : Role) (e : Event) where
   abbrev cue : Cue
@@ -514,16 +514,16 @@ module _ (e : Event) (o : is_opening e ≡ false) where
   no_opening h = differ (sym o ∙ sym (same_opening e) ∙ h)
 
   -- no event but an opening has a row there ..
-  none_cleared : (r : Role) (s : RevState) → row_at r Cleared s e ≡ NoRow
-  none_cleared Originating s = after_clearing (λ (x : Row). x ≡ NoRow) e no_opening refl
-  none_cleared Destination s = after_clearing (λ (x : Row). x ≡ NoRow) e no_opening refl
+  none_cleared : (r : Role) (s : RevState) → row_at r Cleared s e ≡ None
+  none_cleared Originating s = after_clearing (λ (x : Option Row). x ≡ None) e no_opening refl
+  none_cleared Destination s = after_clearing (λ (x : Option Row). x ≡ None) e no_opening refl
 
   -- .. in any REV state
   none_in_cleared : (r : Role) → row_in r Cleared (cue_of (read_of e)) ≡ false
   none_in_cleared Originating =
-      after_clearing (λ (x : Row). some_state (λ s. placed_of Originating Cleared s && is_row x) ≡ false) e no_opening refl
+      after_clearing (λ (x : Option Row). some_state (λ s. placed_of Originating Cleared s && is_row x) ≡ false) e no_opening refl
   none_in_cleared Destination =
-      after_clearing (λ (x : Row). some_state (λ s. placed_of Destination Cleared s && is_row x) ≡ false) e no_opening refl
+      after_clearing (λ (x : Option Row). some_state (λ s. placed_of Destination Cleared s && is_row x) ≡ false) e no_opening refl
 
 pub cleared_refuses : (c : Call) (e : Event) → valid_of c ≡ true → event_ok e ≡ true → is_opening e ≡ false → c.stand.phase ≡ Cleared →
     ((step_of c e).number ≡ 15) ⊎ ((step_of c e).number ≡ 1)
@@ -533,7 +533,7 @@ cleared_refuses c e v k o p =
     refused : step_of c e ≡ refused_of (pickℕ (row_ever c.side.role (cue_of (read_of e))) 15 1) c
     refused =
         row_decides c e v (ap is_unopened p) o k
-        ∙ ap (λ (x : Row). taken_by x c (read_of e))
+        ∙ ap (λ (x : Option Row). taken_by x c (read_of e))
         (ap (λ (q : Phase). row_at c.side.role q c.stand.rev e) p ∙ none_cleared e o c.side.role c.stand.rev)
         ∙ ap (λ (q : Phase). refused_of (why_of c.side.role q (cue_of (read_of e))) c) p
         ∙ ap (λ (b : Bool). refused_of (pickℕ b 16 (pickℕ (row_ever c.side.role (cue_of (read_of e))) 15 1)) c) (none_in_cleared e o c.side.role)

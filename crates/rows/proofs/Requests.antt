@@ -8,6 +8,7 @@ use Prim.Native.Nat.{ℕ}
 use native.Mathlib.Omega.{arith}
 use lib.Dec.{T, eqb, leb}
 use borrow.Author.Tests.{eqb-true, leb-true}
+use Rattle.std.specs.Prelude.{Option}
 use Rattle.meters.specs.Meters.{change_of}
 use Rattle.rows.specs.Find.{row_for_of}
 use Rattle.rows.specs.Perform.{note_of, no_note, perform_if, perform_of}
@@ -66,7 +67,7 @@ zero_or_four n h =
     either (eqb n 0) (eqb n 4) h (λ i. ap (λ (k : ℕ). eqb k 1) (eqb-true n 0 i)) (λ i. ap (λ (k : ℕ). eqb k 1) (eqb-true n 4 i))
 
 module _ (c : Call) (e : Event) where
-  abbrev found : Row
+  abbrev found : Option Row
   found = row_for_of c.side.role c.stand.phase c.stand.rev (cue_of (read_of e))
 
   abbrev terms : Terms

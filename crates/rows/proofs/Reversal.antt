@@ -5,6 +5,7 @@ use mathlib.Core.Bool.{Bool, true, false, ◌&&◌, not}
 use mathlib.Core.List.{List, [], ◌∷◌, ◌++◌}
 use Prim.Native.Nat.{ℕ, ◌+◌, ◌≤◌}
 use native.Mathlib.Omega.{arith}
+use Rattle.std.specs.Prelude.{Option, Some}
 use Rattle.rows.specs.Bill.{pick, Step, accepted, is_answered, counted, seconds_in, is_rev, Case, Mark, plain, second, reversed, Paid}
 use Rattle.rows.specs.Bill.{Took, nothing, took, in_effect, waits, mark, marks, reversal, payer, payments, bill}
 use Rattle.rows.specs.Bill.{an_opening, opens, none_opens}
@@ -12,8 +13,7 @@ use Rattle.rows.specs.History.{run, written, history, opening}
 use Rattle.rows.specs.Promises.{reversals, Extends, with_more}
 use Rattle.rows.specs.Perform.{perform_of}
 use Rattle.rows.specs.Read.{read_of, terms_of}
-use Rattle.rows.specs.Rows.{plan_of}
-use Rattle.rows.specs.Step.{step_of}
+use Rattle.rows.specs.Step.{planned, step_of}
 use Rattle.rows.specs.declared.Call.{Call}
 use Rattle.rows.specs.declared.Event.{Event}
 use Rattle.rows.specs.declared.Number.{Number}
@@ -115,11 +115,11 @@ module _ (P : Outcome → Type 0) (c : Call) (e : Event) where
   abbrev Told : Outcome → Type 0
   Told a = Unopening e a → P a
 
-  abbrev Does : Row → Type 0
-  Does x = Told (perform_of c (plan_of x (terms_of c.side.flags c.stand (read_of e))) (read_of e))
+  abbrev Does : Option Row → Type 0
+  Does x = Told (perform_of c (planned x (terms_of c.side.flags c.stand (read_of e))) (read_of e))
 
   -- the opening's row, accepted
-  not_opened : an_opening e ≡ true → Does Row.Opened
+  not_opened : an_opening e ≡ true → Does (Some Row.Opened)
   not_opened i h = differ (sym h ∙ ap (λ (b : Bool). true && b) i)
 
 ended_keeps : {f : ℕ} {c : Call} {d : Mark} {o : Known} → Agrees f c d o → Ended c → (e : Event) → Unopening e (step_of c e) →

@@ -6,6 +6,7 @@ use mathlib.Core.Bool.{true, false, ◌&&◌}
 use Prim.Native.Nat.{ℕ}
 use lib.Dec.{eqb}
 use borrow.Author.Tests.{eqb-true}
+use Rattle.std.specs.Prelude.{Option}
 use Rattle.rows.specs.Find.{wait_active_of, active_of, wait_active_conf_of, setup_wait_called_of, answered_wait_called_of, row_for_of}
 use Rattle.rows.specs.Promises.{is_facility, tells_running, asks_reversal, is_invoke, told_running, sent_running}
 use Rattle.rows.specs.Read.{read_of, cue_of}
@@ -34,7 +35,7 @@ use Rattle.rows.proofs.Truth.{both, differ, either}
 
 -- ---- What holds of the five tables holds wherever it is running
 
-module _ (P : Row → Type 0) (e : Cue) (wait-active : P (wait_active_of e.kind e)) (active : P (active_of e.kind e))
+module _ (P : Option Row → Type 0) (e : Cue) (wait-active : P (wait_active_of e.kind e)) (active : P (active_of e.kind e))
     (wait-active-conf : P (wait_active_conf_of e.kind e)) (setup-wait-called : P (setup_wait_called_of e.kind e))
     (answered-wait-called : P (answered_wait_called_of e.kind e)) where
   where_running : (r : Role) (ph : Phase) (rv : RevState) → placed_of r ph rv ≡ true → tells_running rv ≡ true → P (row_for_of r ph rv e)
@@ -63,10 +64,10 @@ any_invoke P (Unknown k n) h y = differ h
 
 module _ (c : Call) (v : valid_of c ≡ true) (i : tells_running c.stand.rev ≡ true) where
   -- a row gives the answer o to an event; a table has a row that does
-  abbrev Gives : Outcome → Event → Row → Type 0
+  abbrev Gives : Outcome → Event → Option Row → Type 0
   Gives o e x = taken_by x c (read_of e) ≡ o
 
-  abbrev Has : Outcome → Event → (Kind → Cue → Row) → Type 0
+  abbrev Has : Outcome → Event → (Kind → Cue → Option Row) → Type 0
   Has o e table = Gives o e (table (read_of e).kind (cue_of (read_of e)))
 
   answers : (o : Outcome) (e : Event) → Has o e wait_active_of → Has o e active_of → Has o e wait_active_conf_of → Has o e setup_wait_called_of →

@@ -3,10 +3,12 @@
 use mathlib.Core.Path.{◌≡◌, refl}
 use mathlib.Core.Bool.{Bool, true, false}
 use Prim.Native.Nat.{ℕ}
+use Rattle.std.specs.Prelude.{Option, Some, None}
 use Rattle.rows.specs.Find.{row_for_of}
 use Rattle.rows.specs.Read.{listed_of, correct_by, read_of, cue_of, terms_of}
 use Rattle.rows.specs.Rows
 use Rattle.rows.specs.Rows.{plan_of}
+use Rattle.rows.specs.Step.{planned}
 use Rattle.rows.specs.declared.Call.{Call}
 use Rattle.rows.specs.declared.Component.{Component}
 use Rattle.rows.specs.declared.Component.TheVariants.{Absent, Invoke, Result, Error, Reject, Unknown}
@@ -15,7 +17,7 @@ use Rattle.rows.specs.declared.Correctness.TheVariants.{Correct, Incorrect}
 use Rattle.rows.specs.declared.Event.{Event}
 use Rattle.rows.specs.declared.Plan.{Plan}
 use Rattle.rows.specs.declared.Row.{Row}
-use Rattle.rows.specs.declared.Row.TheVariants.{NoRow, Opened, TimeInSetup, TimeCounts, ClearedHere, Released, RunningHere}
+use Rattle.rows.specs.declared.Row.TheVariants.{Opened, TimeInSetup, TimeCounts, ClearedHere, Released, RunningHere}
 use Rattle.rows.specs.declared.Row.TheVariants.{RunningThere, BasicRequest, AskSetup, BasicAnswer, UnconditionalAsked, SetupAccepted}
 use Rattle.rows.specs.declared.Row.TheVariants.{SetupError, SetupReleased, SetupFailed, UnconditionalAnswered, AskActive}
 use Rattle.rows.specs.declared.Row.TheVariants.{CalledAsked, ActiveAccepted, WaitError, WaitFailed, WaitReleased, PlainIam}
@@ -53,7 +55,6 @@ active_refused_lem Incorrect error h = refl
 
 -- any other has an error of its own, or sends none
 row_listed : (t : Terms) → t.correct ≡ correct_by (listed_of t.error) → (x : Row) → listed (plan_of x t) ≡ true
-row_listed t h NoRow = refl
 row_listed t h Opened = refl
 row_listed t h TimeInSetup = refl
 row_listed t h TimeCounts = refl
@@ -97,8 +98,12 @@ row_listed t h ActiveIgnored = refl
 row_listed t h ActiveCleared = refl
 row_listed t h CalledAccepted = (plans listed t CalledAccepted).law refl
 
+found_listed : (t : Terms) → t.correct ≡ correct_by (listed_of t.error) → (x : Option Row) → listed (planned x t) ≡ true
+found_listed t h (Some row) = row_listed t h row
+found_listed t h None = refl
+
 -- Whatever the event, an error that its row sends is one of REV's.
 pub error_listed_lem : (c : Call) (e : Event) → error_listed (plan_for c e).component ≡ true
 error_listed_lem c e =
-    row_listed (terms_of c.side.flags c.stand (read_of e)) refl
+    found_listed (terms_of c.side.flags c.stand (read_of e)) refl
     (row_for_of c.side.role c.stand.phase c.stand.rev (cue_of (read_of e)))

@@ -8,13 +8,13 @@ use Prim.Native.Nat.{ℕ, ◌≤◌}
 use native.Mathlib.Omega.{arith}
 use lib.Dec.{eqb, leb}
 use borrow.Author.Tests.{eqb-true, eq-eqb, le-leb, leb-true}
+use Rattle.std.specs.Prelude.{Some}
 use Rattle.meters.proofs.Laws
 use Rattle.meters.proofs.Laws.{Gave, gave, Moved, moved_to_called, moved_to_far, received, begins, begun}
 use Rattle.meters.specs.Meters.{limit, new_of, sum_of, within_of, paid_by_of, give_of, received_of, change_of}
 use Rattle.meters.specs.declared.Change.{Change}
 use Rattle.meters.specs.declared.Change.TheVariants.{Keep, Begin, CallerPays, CalledPays, FarPays, NobodyPays, EntireToCalled}
 use Rattle.meters.specs.declared.Change.TheVariants.{EntireToFar, TimePasses, DurationReceived}
-use Rattle.meters.specs.declared.Metered.TheVariants.{Done}
 use Rattle.meters.specs.declared.Meters.{Meters}
 use Rattle.meters.specs.declared.Payer.{Payer}
 use Rattle.meters.specs.declared.Payer.TheVariants.{Nobody, Caller, Called, Far}
@@ -275,7 +275,7 @@ paid_tally : (r : Role) (m : Meters) (p : Payer) → tallied r m ≡ true → ta
 paid_tally Originating m p h = h
 paid_tally Destination m p h = h
 
-pays : (r : Role) (t : Age) (p : Payer) (m n : Meters) → Sound r t m → Done (paid_by_of m p) ≡ Done n → Left r p n
+pays : (r : Role) (t : Age) (p : Payer) (m n : Meters) → Sound r t m → Some (paid_by_of m p) ≡ Some n → Left r p n
 pays r t p m n z h =
     let e : paid_by_of m p ≡ n = cc in
     subst (λ (k : Meters). Left r p k) e
@@ -289,13 +289,13 @@ moves r t p m n z g =
       payer = g.payer;
     }
 
-ticks : (r : Role) (m n : Meters) (s : ℕ) → Sound r talking m → give_of m s ≡ Done n → Left r m.payer n
+ticks : (r : Role) (m n : Meters) (s : ℕ) → Sound r talking m → give_of m s ≡ Some n → Left r m.payer n
 ticks r m n s z h =
     let g = gave m n s (somebody r m.payer z.paying) h in
     record { tally = ticked r z g; within = le-leb _ _ g.bound; payer = g.payer }
 
 -- a Duration is a destination's: it sets the meters and not the total, so the originating exchange's would no longer add up
-receives : (r : Role) (t : Age) (m n : Meters) (s : ℕ) → is_destination r ≡ true → Sound r t m → received_of m s ≡ Done n → Left r Called n
+receives : (r : Role) (t : Age) (m n : Meters) (s : ℕ) → is_destination r ≡ true → Sound r t m → received_of m s ≡ Some n → Left r Called n
 receives Originating t m n s i z h = differ i
 receives Destination t m n s i z h =
     let g = received m n s h in
@@ -336,7 +336,7 @@ anew r over n i e = differ i
 keeps : (r : Role) (t u : Age) {m : Meters} → same_age t u ≡ true → Sound r t m → Sound r u m
 keeps r t u {m} i z = subst (λ (v : Age). Sound r v m) (sym (same_age_lem t u i)) z
 
-changes : (r : Role) (t u : Age) (x : Change) (m n : Meters) (s : ℕ) → turns r t u x ≡ true → Sound r t m → change_of x m s ≡ Done n →
+changes : (r : Role) (t u : Age) (x : Change) (m n : Meters) (s : ℕ) → turns r t u x ≡ true → Sound r t m → change_of x m s ≡ Some n →
     Sound r u n
 changes r t u Keep m n s i z h = let e : m ≡ n = cc in subst (λ (k : Meters). Sound r u k) e (keeps r t u i z)
 changes r t u Begin m n s i z h = anew r u n i (begun Begin m n s refl h)
@@ -405,7 +405,7 @@ made s at m g =
     (both g.sound.within (both (paying s.role at.phase m.payer ∙ g.sound.paying) g.held)))
 
 module _ (s : Side) (now to : Stand) (m n : Meters) (x : Change) (e : Event) (ok : event_ok e ≡ true) (g : Good s now m)
-    (h : change_of x m (read_of e).seconds ≡ Done n) where
+    (h : change_of x m (read_of e).seconds ≡ Some n) where
   -- the role stays
   stays : (y : Register) → (side_of y s (read_of e)).role ≡ s.role →
       (placed_of s.role to.phase to.rev && turns s.role (age_of now.phase) (age_of to.phase) x) ≡ true →

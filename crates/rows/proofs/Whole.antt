@@ -8,11 +8,11 @@ use Prim.Native.Nat.{ℕ, ◌+◌}
 use native.Mathlib.Omega.{arith}
 use lib.Dec.{eqb, leb}
 use borrow.Author.Tests.{not-true}
+use Rattle.std.specs.Prelude.{Option, Some, None}
 use Rattle.meters.proofs.Laws
 use Rattle.meters.proofs.Laws.{Gave, gave, Moved, moved_to_called, moved_to_far}
 use Rattle.meters.specs.Meters.{new_of, paid_by_of, give_of, change_of}
 use Rattle.meters.specs.declared.Change.TheVariants.{EntireToCalled, EntireToFar}
-use Rattle.meters.specs.declared.Metered.TheVariants.{Done}
 use Rattle.meters.specs.declared.Meters.{Meters}
 use Rattle.meters.specs.declared.Payer.{Payer}
 use Rattle.meters.specs.declared.Payer.TheVariants.{Nobody, Caller, Called, Far}
@@ -29,7 +29,7 @@ use Rattle.rows.specs.Read.{bit, lowest, flags_of, heard_of, kind_by, kind_of, r
 use Rattle.rows.specs.Read.{extent_by, correct_by, terms_of}
 use Rattle.rows.specs.Rows
 use Rattle.rows.specs.Rows.{plan_of}
-use Rattle.rows.specs.Step.{unopened_call, if_in_range, step_of}
+use Rattle.rows.specs.Step.{planned, unopened_call, if_in_range, step_of}
 use Rattle.rows.specs.Valid.{event_ok}
 use Rattle.rows.specs.declared.Call.{Call}
 use Rattle.rows.specs.declared.Component.{Component}
@@ -133,8 +133,8 @@ abbrev Good : ℕ → Said → Call → Mark → Known → Event → Outcome →
 Good f w c d o e a = Agrees f a.call (waits_by w d (written c e a)) (note o (mark_by w d (written c e a)))
 
 -- so does a row
-abbrev Fine : ℕ → Said → Call → Mark → Known → Event → Row → Type 0
-Fine f w c d o e row = Good f w c d o e (perform_of c (plan_of row (terms_of c.side.flags c.stand (read_of e))) (read_of e))
+abbrev Fine : ℕ → Said → Call → Mark → Known → Event → Option Row → Type 0
+Fine f w c d o e row = Good f w c d o e (perform_of c (planned row (terms_of c.side.flags c.stand (read_of e))) (read_of e))
 
 kinds : (P : Kind → Type 0) (a b r : Bool) → P Iam → P Answer → P Rel → P Fac → P (kind_by a b r)
 kinds P true b r i n l c = i
@@ -146,7 +146,7 @@ pub by_kind : (m : Message) (P : Kind → Type 0) → P Iam → P Answer → P R
 by_kind m P = kinds P (eqb m.kind 1) (eqb m.kind 2 || eqb m.kind 3) (eqb m.kind 4)
 
 -- a cleared call has a row for an opening, and for nothing else
-pub after_clearing : (P : Row → Type 0) (e : Event) → (an_opening e ≡ true → P Row.Opened) → P Row.NoRow →
+pub after_clearing : (P : Option Row → Type 0) (e : Event) → (an_opening e ≡ true → P (Some Row.Opened)) → P None →
     P (vacant_of (read_of e).kind (cue_of (read_of e)))
 after_clearing P (Opening r f n) h p = h refl
 after_clearing P (Ask q n) h p = p
@@ -181,7 +181,7 @@ somebody (took k t) h = by (covers k true) t h
     by false t h = differ (ap (same Nobody) h)
 
 -- the payer's meter takes the seconds
-ticks : {m n : Meters} {x y : ℕ} (s : ℕ) (w : Took) → Right m (known w x y) → give_of m s ≡ Done n → Right n (note_seconds w x y s)
+ticks : {m n : Meters} {x y : ℕ} (s : ℕ) (w : Took) → Right m (known w x y) → give_of m s ≡ Some n → Right n (note_seconds w x y s)
 ticks {m} {n} {x} {y} s nothing z h =
     let g = gave m n s (λ e. somebody nothing (sym z.pays ∙ e)) h in
     let g' : Gave m n Caller s s = subst (λ (p : Payer). Gave m n p s s) z.pays g in
@@ -370,7 +370,7 @@ module _ (f : ℕ) (m : Message) where
   abbrev word : Heard
   word = heard_of m.component
 
-  abbrev P : Call → Mark → Known → Row → Type 0
+  abbrev P : Call → Mark → Known → Option Row → Type 0
   P c d o row = Fine f (heard f m) c d o (Received m) row
 
   -- where an answer to case A, an answer to case B or the called user's request is what is tested
@@ -383,19 +383,19 @@ module _ (f : ℕ) (m : Message) where
   abbrev enough : Bool
   enough = lowest m.parts || bit 32 m.parts
 
-  abbrev OnA : Call → Mark → Known → Bool → Row → Type 0
+  abbrev OnA : Call → Mark → Known → Bool → Option Row → Type 0
   OnA c d o b row =
       Fine f (saying b word.resultactive word.invokecalled (bit 8 m.parts) asks_transfer gives_transfer) c d o (Received m) row
 
-  abbrev OnB : Call → Mark → Known → Bool → Row → Type 0
+  abbrev OnB : Call → Mark → Known → Bool → Option Row → Type 0
   OnB c d o b row =
       Fine f (saying word.resultsetup b word.invokecalled (bit 8 m.parts) asks_transfer gives_transfer) c d o (Received m) row
 
-  abbrev OnRequest : Call → Mark → Known → Bool → Row → Type 0
+  abbrev OnRequest : Call → Mark → Known → Bool → Option Row → Type 0
   OnRequest c d o b row =
       Fine f (saying word.resultsetup word.resultactive b (bit 8 m.parts) asks_transfer gives_transfer) c d o (Received m) row
 
-  abbrev K : Call → Mark → Known → (Kind → Cue → Row) → Kind → Type 0
+  abbrev K : Call → Mark → Known → (Kind → Cue → Option Row) → Kind → Type 0
   K c d o table k = P c d o (table k (cue_of (read_of (Received m))))
 
   receives : {c : Call} {d : Mark} {o : Known} → Agrees f c d o → Kept f c d o (Received m)

@@ -1,12 +1,10 @@
 -- PERFORM: a plan carried out, once.
 -- Assumes nothing.
-use Rattle.std.specs.Prelude.{ℕ, Bool, true, false, eqb, leb}
+use Rattle.std.specs.Prelude.{Option, Some, None, ℕ, Bool, true, false, eqb, leb}
 use Rattle.rows.specs.Numbers.{applied, too_much, no_part, calling_part, called_part, duration_part}
 use Rattle.rows.specs.Read.{bit, flags_of}
 use Rattle.rows.specs.Telephone.{absent}
 use Rattle.meters.specs.Meters.{change_of}
-use Rattle.meters.specs.declared.Metered.{Metered}
-use Rattle.meters.specs.declared.Metered.TheVariants.{Done, TooMuch}
 use Rattle.meters.specs.declared.Meters.{Meters}
 use Rattle.meters.specs.declared.Payer.{Payer}
 use Rattle.meters.specs.declared.Payer.TheVariants.{Nobody, Caller, Called, Far}
@@ -190,9 +188,9 @@ follows_of c p r after =
     (stopping_of c.meters.payer after.payer)
 
 -- 2 is the meters' own refusal
-abbrev pub settled_of : Metered → Call → Plan → Reading → Outcome
-settled_of (Done after) c p r = follows_of c p r after
-settled_of TooMuch c p r = refused_of too_much c
+abbrev pub settled_of : Option Meters → Call → Plan → Reading → Outcome
+settled_of (Some after) c p r = follows_of c p r after
+settled_of None c p r = refused_of too_much c
 
 abbrev pub does_of : Call → Plan → Reading → Outcome
 does_of c p r = settled_of (change_of p.change c.meters r.seconds) c p r

@@ -1,7 +1,7 @@
 -- WHAT IS PROMISED of the reasons for a refusal (02 #106): the words that the theorems on 1, 3, 15, 16, 17 and 20 use. Here the tables are
 -- asked themselves (Find.antt), as the request does: "the role has a row". proofs/Theorems.antt states them.
 -- Assumes nothing.
-use Rattle.std.specs.Prelude.{ℕ, zero, suc, ◌<◌, Bool, true, false, ◌||◌, List, [], ◌∷◌, ◌⊎◌, ◌≡◌, eqb}
+use Rattle.std.specs.Prelude.{ℕ, zero, suc, ◌<◌, Bool, true, false, ◌||◌, List, [], ◌∷◌, Option, None, ◌⊎◌, ◌≡◌, eqb}
 use Rattle.rows.specs.Find.{row_for_of}
 use Rattle.rows.specs.Promises.{sent}
 use Rattle.rows.specs.Read.{read_of, cue_of}
@@ -18,7 +18,6 @@ use Rattle.rows.specs.declared.Phase.TheVariants.{Unopened, Cleared}
 use Rattle.rows.specs.declared.RevState.{RevState}
 use Rattle.rows.specs.declared.Role.{Role}
 use Rattle.rows.specs.declared.Row.{Row}
-use Rattle.rows.specs.declared.Row.TheVariants.{NoRow}
 
 -- ---- Why there was no row: proofs/Reasons.antt
 
@@ -37,14 +36,14 @@ pub record Looked (c : Call) (e : Event) : Type 0 where
   pub ranged : event_ok e ≡ true
 
 -- the row of this event at a place
-abbrev pub row_at : Role → Phase → RevState → Event → Row
+abbrev pub row_at : Role → Phase → RevState → Event → Option Row
 row_at r p s e = row_for_of r p s (cue_of (read_of e))
 
 -- "the role has a row": in a place that 01 allows
 pub record HasRowIn (r : Role) (p : Phase) (e : Event) : Type 0 where
   pub rev : RevState
   pub placed : placed_of r p rev ≡ true
-  pub row : row_at r p rev e ≡ NoRow → ⊥
+  pub row : row_at r p rev e ≡ None → ⊥
 
 -- "no row in this role at any time"
 abbrev pub Never : Role → Event → Type 0
@@ -56,7 +55,7 @@ OnlyElsewhere r p e = (HasRowIn r p e → ⊥) × ((q : Phase) × HasRowIn r q e
 
 -- "the wrong REV state": not here, but in this phase
 abbrev pub OtherState : Role → Phase → RevState → Event → Type 0
-OtherState r p s e = (row_at r p s e ≡ NoRow) × HasRowIn r p e
+OtherState r p s e = (row_at r p s e ≡ None) × HasRowIn r p e
 
 -- the number where it is one of these reasons, else 0
 abbrev pub reason : ℕ → ℕ

@@ -16,7 +16,7 @@
 -- called_part, the own number as Calling or Called User Number; duration_part, the caller's meter.
 -- Assumes nothing.
 use Rattle.std.specs.Prelude.{ℕ, ◌+◌, Bool, true, false, ◌&&◌}
-use Rattle.rows.specs.Numbers.{applied, no_row, part_absent, calling_req_setup, calling_req_active, called_request, user_not_subscribed}
+use Rattle.rows.specs.Numbers.{applied, part_absent, calling_req_setup, calling_req_active, called_request, user_not_subscribed}
 use Rattle.rows.specs.Numbers.{not_available, interaction_not_allowed, basic_service_not_provided, user_ignored, already_running}
 use Rattle.rows.specs.Numbers.{normal_clearing, facility_rejected, timer_expiry, no_part, transfer_part, agreed_parts, partial_part}
 use Rattle.rows.specs.Numbers.{calling_part, called_part, duration_part}
@@ -47,7 +47,7 @@ use Rattle.rows.specs.declared.Plan.{Plan}
 use Rattle.rows.specs.declared.Register.{Register}
 use Rattle.rows.specs.declared.Register.TheVariants.{AsHeld, FromOpening, CalledNumber, CallingNumber}
 use Rattle.rows.specs.declared.Row.{Row}
-use Rattle.rows.specs.declared.Row.TheVariants.{NoRow, Opened, TimeInSetup, TimeCounts, ClearedHere, Released, RunningHere}
+use Rattle.rows.specs.declared.Row.TheVariants.{Opened, TimeInSetup, TimeCounts, ClearedHere, Released, RunningHere}
 use Rattle.rows.specs.declared.Row.TheVariants.{RunningThere, BasicRequest, AskSetup, BasicAnswer, UnconditionalAsked, SetupAccepted}
 use Rattle.rows.specs.declared.Row.TheVariants.{SetupError, SetupReleased, SetupFailed, UnconditionalAnswered, AskActive}
 use Rattle.rows.specs.declared.Row.TheVariants.{CalledAsked, ActiveAccepted, WaitError, WaitFailed, WaitReleased, PlainIam}
@@ -79,7 +79,7 @@ row number next change register first second third fourth component parts error 
       cause = cause;
     }
 
--- no row, or a needed part that is absent
+-- no row (Step.antt), or a needed part that is absent
 abbrev pub refuses : ℕ → Plan
 refuses number = row number Stay Keep AsHeld Nothing Nothing Nothing Nothing (Absent 0) no_part 0 0
 
@@ -319,7 +319,6 @@ called_accepted Entire Transfer calling duration =  -- D47  3.5.2.4.5.1 b; 01, "
 -- ---- Every row
 
 abbrev pub plan_of : Row → Terms → Plan
-plan_of NoRow t = refuses no_row  -- not asked: where there is no row, Step.antt says why
 plan_of Opened t = quiet ToNull Begin FromOpening  -- G1  01, kind 1; 02 #107, "An opening takes the slot it names"
 plan_of TimeInSetup t = quiet Stay Keep AsHeld  -- G2  01, "only ANSWERED counts"
 plan_of TimeCounts t = quiet Stay TimePasses AsHeld  -- G3  01, "one of them runs and takes all seconds"

@@ -1,12 +1,12 @@
 -- One step of a call: the answer to any event in any state.
 -- Assumes nothing.
-use Rattle.std.specs.Prelude.{ℕ, Bool, true, false, ◌&&◌, eqb, List, [], ◌∷◌}
+use Rattle.std.specs.Prelude.{ℕ, zero, suc, Option, Some, None, Bool, true, false, ◌&&◌, eqb, List, [], ◌∷◌}
 use Rattle.rows.specs.Find.{row_for_of}
-use Rattle.rows.specs.Numbers.{bad_field, not_a_call, before_opening, slot_in_use, iam, anm, rel, fac}
+use Rattle.rows.specs.Numbers.{no_row, bad_field, not_a_call, before_opening, slot_in_use, iam, anm, rel, fac}
 use Rattle.rows.specs.Perform.{at, refused_at, refused_of, perform_of}
 use Rattle.rows.specs.Read.{flags_of, read_of, cue_of, terms_of}
 use Rattle.rows.specs.Telephone.{absent}
-use Rattle.rows.specs.Rows.{plan_of}
+use Rattle.rows.specs.Rows.{refuses, plan_of}
 use Rattle.rows.specs.Valid.{valid_of, event_ok, bad_field_of}
 use Rattle.rows.specs.Why.{is_row, why_of}
 use Rattle.meters.specs.Meters.{new_of}
@@ -19,10 +19,12 @@ use Rattle.rows.specs.declared.Note.{Note}
 use Rattle.rows.specs.declared.Outcome.{Outcome}
 use Rattle.rows.specs.declared.Phase.{Phase}
 use Rattle.rows.specs.declared.Phase.TheVariants.{Unopened, Null, Setup, Answered, Cleared}
+use Rattle.rows.specs.declared.Plan.{Plan}
 use Rattle.rows.specs.declared.Reading.{Reading}
 use Rattle.rows.specs.declared.RevState.TheVariants.{Idle}
 use Rattle.rows.specs.declared.Role.TheVariants.{Originating}
 use Rattle.rows.specs.declared.Row.{Row}
+use Rattle.rows.specs.declared.Terms.{Terms}
 
 -- a call before its opening
 abbrev pub unopened_call : Call
@@ -37,12 +39,17 @@ unopened_call =
 abbrev pub total_of : Call → ℕ
 total_of c = c.meters.total
 
+-- the plan of a row; not asked where there is none: why_of says why
+abbrev pub planned : Option Row → Terms → Plan
+planned (Some row) t = plan_of row t
+planned None t = refuses no_row
+
 -- plan the row by flags, parts and what is pending; perform it; where there is none, say why
-abbrev pub if_row : Bool → Row → Call → Reading → Outcome
-if_row true x c r = perform_of c (plan_of x (terms_of c.side.flags c.stand r)) r
+abbrev pub if_row : Bool → Option Row → Call → Reading → Outcome
+if_row true x c r = perform_of c (planned x (terms_of c.side.flags c.stand r)) r
 if_row false x c r = refused_of (why_of c.side.role c.stand.phase (cue_of r)) c
 
-abbrev pub taken_by : Row → Call → Reading → Outcome
+abbrev pub taken_by : Option Row → Call → Reading → Outcome
 taken_by x c r = if_row (is_row x) x c r
 
 -- find the row by role, phase, REV state and event
@@ -78,6 +85,11 @@ untimely_of Setup false = 0
 untimely_of Answered true = slot_in_use
 untimely_of Answered false = 0
 untimely_of Cleared opening = 0
+
+-- as it is answered: 0, which is none, is None
+abbrev pub refusal : ℕ → Option ℕ
+refusal zero = None
+refusal (suc n) = Some (suc n)
 
 -- 02 #106: "17 and 18 before 3", and #107: "20 in 18's place"; so whatever the event's fields
 abbrev pub in_time : Bool → ℕ → Call → Event → Outcome

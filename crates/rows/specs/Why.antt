@@ -2,7 +2,7 @@
 -- row only in another phase); 16 for the wrong REV state (the role has a row in this phase)". Asked of the tables themselves (Find.antt):
 -- a row that is added there changes the answer by itself.
 -- Assumes nothing.
-use Rattle.std.specs.Prelude.{ℕ, Bool, true, false, ◌&&◌, ◌||◌}
+use Rattle.std.specs.Prelude.{ℕ, Bool, true, false, ◌&&◌, ◌||◌, Option, Some, None}
 use Rattle.rows.specs.Find.{row_for_of}
 use Rattle.rows.specs.Numbers.{no_row, wrong_phase, wrong_state}
 use Rattle.rows.specs.Valid.{placed_of, pickℕ}
@@ -17,60 +17,11 @@ use Rattle.rows.specs.declared.RevState.TheVariants.{WaitCalled}
 use Rattle.rows.specs.declared.Role.{Role}
 use Rattle.rows.specs.declared.Role.TheVariants.{Originating, Destination}
 use Rattle.rows.specs.declared.Row.{Row}
-use Rattle.rows.specs.declared.Row.TheVariants.{NoRow, Opened, TimeInSetup, TimeCounts, ClearedHere, Released, RunningHere}
-use Rattle.rows.specs.declared.Row.TheVariants.{RunningThere, BasicRequest, AskSetup, BasicAnswer, UnconditionalAsked}
-use Rattle.rows.specs.declared.Row.TheVariants.{SetupAccepted, SetupError, SetupReleased, SetupFailed, UnconditionalAnswered}
-use Rattle.rows.specs.declared.Row.TheVariants.{AskActive, CalledAsked, ActiveAccepted, WaitError, WaitFailed, WaitReleased}
-use Rattle.rows.specs.declared.Row.TheVariants.{PlainIam, SetupAsked, AnsweredHere, SetupConfirmed, SetupRefused, SetupRejected}
-use Rattle.rows.specs.declared.Row.TheVariants.{SetupIgnored, SetupExpired, UnconditionalAccepted, UnconditionalFailed}
-use Rattle.rows.specs.declared.Row.TheVariants.{UnconditionalConnected, ActiveAsked, AskPartial, AskEntire, ActiveConfirmed}
-use Rattle.rows.specs.declared.Row.TheVariants.{ActiveRefused, ActiveRejected, ActiveIgnored, ActiveCleared, CalledAccepted}
 
 -- a row was found: also one that answers with an error, or whose plan then gives 4 or 2
-abbrev pub is_row : Row → Bool
-is_row NoRow = false
-is_row Opened = true
-is_row TimeInSetup = true
-is_row TimeCounts = true
-is_row ClearedHere = true
-is_row Released = true
-is_row RunningHere = true
-is_row RunningThere = true
-is_row BasicRequest = true
-is_row AskSetup = true
-is_row BasicAnswer = true
-is_row UnconditionalAsked = true
-is_row SetupAccepted = true
-is_row SetupError = true
-is_row SetupReleased = true
-is_row SetupFailed = true
-is_row UnconditionalAnswered = true
-is_row AskActive = true
-is_row CalledAsked = true
-is_row ActiveAccepted = true
-is_row WaitError = true
-is_row WaitFailed = true
-is_row WaitReleased = true
-is_row PlainIam = true
-is_row SetupAsked = true
-is_row AnsweredHere = true
-is_row SetupConfirmed = true
-is_row SetupRefused = true
-is_row SetupRejected = true
-is_row SetupIgnored = true
-is_row SetupExpired = true
-is_row UnconditionalAccepted = true
-is_row UnconditionalFailed = true
-is_row UnconditionalConnected = true
-is_row ActiveAsked = true
-is_row AskPartial = true
-is_row AskEntire = true
-is_row ActiveConfirmed = true
-is_row ActiveRefused = true
-is_row ActiveRejected = true
-is_row ActiveIgnored = true
-is_row ActiveCleared = true
-is_row CalledAccepted = true
+abbrev pub is_row : Option Row → Bool
+is_row (Some row) = true
+is_row None = false
 
 abbrev pub some_state : (RevState → Bool) → Bool
 some_state f =

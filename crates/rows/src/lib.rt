@@ -51,7 +51,7 @@ pub enum RevState {
 }
 
 // 02 #103: "A number now also states its nature, national or international".
-#[derive(Clone, Copy)]
+#[derive(Clone, Copy, PartialEq, Eq)]
 pub enum Nature {
     National,
     International,
@@ -59,7 +59,7 @@ pub enum Nature {
 
 // A telephone number: its nature, the count of its digits, and its value. Two with the same digits, one at home and one abroad, are
 // two numbers.
-#[derive(Clone, Copy)]
+#[derive(Clone, Copy, PartialEq, Eq)]
 pub struct Number {
     pub nature: Nature,
     pub count: u8,
@@ -126,6 +126,7 @@ pub enum Event {
 pub struct Reading {
     pub kind: Kind,
     // the role of an opening, what the own user asks, what the access tells
+    // Kept: a record's numbers, as Event has them and as `read_of`, `asked_of` and `told_of` (Read.antt) take them.
     pub item: u8,
     pub flags: u8,
     pub component: Component,
@@ -163,6 +164,7 @@ pub enum Kind {
 }
 
 // What the own user asks for: a basic call, or reverse charging by case A, B or C.
+// Kept: here, in Heard and in Told a bool for each test of the tables, for the tests overlap: reversal is casea, caseb or casec.
 #[derive(Clone, Copy)]
 pub struct Asked {
     pub basic: bool,
@@ -201,8 +203,6 @@ pub struct Told {
 // The names O1 .. O40, D1 .. D60 and G1 .. G5 are those of docs/ROWS.md.
 #[derive(Clone, Copy)]
 pub enum Row {
-    // no row: 1, 15 or 16
-    NoRow,
     // G1
     Opened,
     // G2
@@ -360,6 +360,7 @@ pub struct Terms {
 }
 
 // What a row does. number: 0, or the refusal.
+// Kept: the number, for of all rows only eight may lack a part (`needs`), and each plan of the others would stand in a Some.
 #[derive(Clone, Copy)]
 pub struct Plan {
     pub number: u8,

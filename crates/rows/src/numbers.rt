@@ -1,6 +1,9 @@
 // The numbers of the papers, each behind one name. specs/Numbers.antt has the same numbers; here the parts stand added up as they are
 // sent.
 
+ghost use Rattle.std.specs.Prelude.{◌≡◌, ◌<◌};
+ghost use Rattle.rows.specs.Read.{bit};
+
 // 01, numbers given back: a row applied, or why not.
 pub const APPLIED: u8 = 0;
 
@@ -68,6 +71,13 @@ pub const FACILITY_REJECTED: u8 = 29;
 
 pub const TIMER_EXPIRY: u8 = 102;
 
+// 01, kind 3: the numbers and the Duration that a message may carry, each named by its part.
+pub const CALLING_PART: u8 = 16;
+
+pub const CALLED_PART: u8 = 32;
+
+pub const DURATION_PART: u8 = 64;
+
 // 01, kind 3: the parts that a message carries. Transfer is accepted as parts 2 and 4 together.
 pub const BARE: u8 = 0;
 
@@ -76,6 +86,8 @@ pub const TRANSFER: u8 = 1;
 pub const ACCEPTED: u8 = 2;
 
 pub const AS_TRANSFER: u8 = 4;
+
+pub const PARTIAL: u8 = 8;
 
 pub const AGREED: u8 = 6;
 
@@ -93,3 +105,11 @@ pub const AGREED_CALLING_DURATION: u8 = 86;
 
 // 01, kind 6: a time event has at most a day.
 pub const DAY: u32 = 86400;
+
+// Whether a part is among those added up.
+pub fn has(parts: u8, part: u8) -> bool
+    requires { 0 < part }
+    ensures { result ≡ bit part parts }
+{
+    parts / part % 2 == 1
+}

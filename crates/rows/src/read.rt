@@ -1,13 +1,13 @@
 // What an event says: in one form for all kinds, to the tables that find its row, and to the rows.
 ghost use Rattle.std.specs.Prelude.{◌≡◌};
-ghost use Rattle.rows.specs.Read.{bit, flags_of, asked_of, told_of, heard_by, heard_of, kind_by, kind_of, error_of, plain_of, read_message};
+ghost use Rattle.rows.specs.Read.{flags_of, asked_of, told_of, heard_of, kind_of, error_of, plain_of, read_message};
 ghost use Rattle.rows.specs.Read.{read_of, cue_of, listed_of, interaction_by, judged_by, mode_by, extent_by, service_by, correct_by, terms_of};
 
 use crate::numbers::{
-    ACCEPTED, ALREADY_RUNNING, ANM, AS_TRANSFER, BASIC_SERVICE_NOT_PROVIDED, CALLED_REQUEST,
-    CALLING_REQ_ACTIVE, CALLING_REQ_SETUP, CON, IAM, INTERACTION_NOT_ALLOWED, NORMAL_CLEARING,
-    NOT_AVAILABLE, REJECTED_BY_NETWORK, REJECTED_BY_USER, REL, RESOURCE_UNAVAILABLE, USER_IGNORED,
-    USER_NOT_SUBSCRIBED,
+    ACCEPTED, ALREADY_RUNNING, ANM, AS_TRANSFER, BASIC_SERVICE_NOT_PROVIDED, CALLED_PART,
+    CALLED_REQUEST, CALLING_PART, CALLING_REQ_ACTIVE, CALLING_REQ_SETUP, CON, DURATION_PART, IAM,
+    INTERACTION_NOT_ALLOWED, NORMAL_CLEARING, NOT_AVAILABLE, PARTIAL, REJECTED_BY_NETWORK,
+    REJECTED_BY_USER, REL, RESOURCE_UNAVAILABLE, USER_IGNORED, USER_NOT_SUBSCRIBED, has,
 };
 use crate::{
     ABSENT, Asked, Component, Correctness, Cue, Event, Extent, Flags, Heard, Interaction, Judged,
@@ -15,223 +15,279 @@ use crate::{
 };
 
 // 01, kind 1: 1 transfer, 2 subscription option, 4 subscribed, 8 interaction allowed, 16 case D.
-pub(crate) fn flags_of(n: u8) -> Flags
-    ensures { result ≡ flags_of n }
-{
-    Flags {
-        transfer: n % 2 == 1,
-        option: (n / 2) % 2 == 1,
-        subscribed: (n / 4) % 2 == 1,
-        interaction: (n / 8) % 2 == 1,
-        unconditional: (n / 16) % 2 == 1,
+impl From<u8> for Flags {
+    ghost from_gives = { λ n given. given ≡ flags_of n };
+
+    fn from(n: u8) -> Self {
+        Flags {
+            transfer: n % 2 == 1,
+            option: has(n, 2),
+            subscribed: has(n, 4),
+            interaction: has(n, 8),
+            unconditional: has(n, 16),
+        }
     }
 }
 
-pub(crate) fn asked_of(n: u8) -> Asked
-    ensures { result ≡ asked_of n }
-{
-    Asked {
-        basic: n == 0,
-        casea: n == 1,
-        caseb: n == 2,
-        casec: n == 3,
-        reversal: (1 <= n) & (n <= 3),
+// 01, kind 2: 0 basic call, 1 A, 2 B, 3 C.
+impl From<u8> for Asked {
+    ghost from_gives = { λ n given. given ≡ asked_of n };
+
+    fn from(n: u8) -> Self {
+        Asked {
+            basic: n == 0,
+            casea: n == 1,
+            caseb: n == 2,
+            casec: n == 3,
+            reversal: matches!(n, 1..=3),
+        }
     }
 }
 
-pub(crate) fn told_of(n: u8) -> Told
-    ensures { result ≡ told_of n }
-{
-    Told {
-        accepts: n == 1,
-        refuses: n == 2,
-        rejects: n == 3,
-        clears: n == 4,
-        answers: n == 5,
+// 01, kind 4: 1 accept, 2 error, 3 reject, 4 clear, 5 answer without REV.
+impl From<u8> for Told {
+    ghost from_gives = { λ n given. given ≡ told_of n };
+
+    fn from(n: u8) -> Self {
+        Told {
+            accepts: n == 1,
+            refuses: n == 2,
+            rejects: n == 3,
+            clears: n == 4,
+            answers: n == 5,
+        }
     }
 }
 
-fn heard_by(alone: bool, invoke: bool, res: bool, failure: bool, rejection: bool, n: u8) -> Heard
-    ensures { result ≡ heard_by alone invoke res failure rejection n }
-{
-    Heard {
-        alone: alone,
-        invoke: invoke,
-        invokesetup: invoke & (n == CALLING_REQ_SETUP),
-        invokeactive: invoke & (n == CALLING_REQ_ACTIVE),
-        invokecalled: invoke & (n == CALLED_REQUEST),
-        resultsetup: res & (n == CALLING_REQ_SETUP),
-        resultactive: res & (n == CALLING_REQ_ACTIVE),
-        resultcalled: res & (n == CALLED_REQUEST),
-        failure: failure,
-        rejection: rejection,
-    }
-}
+// A component of which no row has heard.
+const NOTHING_HEARD: Heard = Heard {
+    alone: false,
+    invoke: false,
+    invokesetup: false,
+    invokeactive: false,
+    invokecalled: false,
+    resultsetup: false,
+    resultactive: false,
+    resultcalled: false,
+    failure: false,
+    rejection: false,
+};
 
-pub(crate) fn heard_of(component: Component) -> Heard
-    ensures { result ≡ heard_of component }
-{
-    match component {
-        Component::Absent(n) => heard_by(true, false, false, false, false, n),
-        Component::Invoke(n) => heard_by(false, true, false, false, false, n),
-        Component::Result(n) => heard_by(false, false, true, false, false, n),
-        Component::Error(n) => heard_by(false, false, false, true, false, n),
-        Component::Reject(n) => heard_by(false, false, false, false, true, n),
-        Component::Unknown(_, n) => heard_by(false, false, false, false, false, n),
-    }
-}
+impl From<Component> for Heard {
+    ghost from_gives = { λ component given. given ≡ heard_of component };
 
-fn kind_by(iam: bool, answer: bool, rel: bool) -> Kind
-    ensures { result ≡ kind_by iam answer rel }
-{
-    if iam {
-        Kind::Iam
-    } else {
-        if answer {
-            Kind::Answer
-        } else {
-            if rel { Kind::Rel } else { Kind::Fac }
+    fn from(component: Component) -> Self {
+        match component {
+            Component::Absent(_) => Heard {
+                alone: true,
+                ..NOTHING_HEARD
+            },
+            Component::Invoke(n) => Heard {
+                invoke: true,
+                invokesetup: n == CALLING_REQ_SETUP,
+                invokeactive: n == CALLING_REQ_ACTIVE,
+                invokecalled: n == CALLED_REQUEST,
+                ..NOTHING_HEARD
+            },
+            Component::Result(n) => Heard {
+                resultsetup: n == CALLING_REQ_SETUP,
+                resultactive: n == CALLING_REQ_ACTIVE,
+                resultcalled: n == CALLED_REQUEST,
+                ..NOTHING_HEARD
+            },
+            Component::Error(_) => Heard {
+                failure: true,
+                ..NOTHING_HEARD
+            },
+            Component::Reject(_) => Heard {
+                rejection: true,
+                ..NOTHING_HEARD
+            },
+            Component::Unknown(_, _) => NOTHING_HEARD,
         }
     }
 }
 
 // A message, by its number; a message that is none of 1 to 5 gets 3 before any row is looked for.
-pub(crate) fn kind_of(n: u8) -> Kind
+fn kind_of(n: u8) -> Kind
     ensures { result ≡ kind_of n }
 {
-    kind_by(n == IAM, (n == ANM) | (n == CON), n == REL)
-}
-
-pub(crate) fn error_of(component: Component) -> u8
-    ensures { result ≡ error_of component }
-{
-    match component {
-        Component::Absent(_) => 0,
-        Component::Invoke(_) => 0,
-        Component::Result(_) => 0,
-        Component::Error(n) => n,
-        Component::Reject(_) => 0,
-        Component::Unknown(_, _) => 0,
+    match n {
+        IAM => Kind::Iam,
+        ANM | CON => Kind::Answer,
+        REL => Kind::Rel,
+        _ => Kind::Fac,
     }
 }
 
-fn plain(kind: Kind, item: u8, error: u8, cause: u8, seconds: u32) -> Reading
-    ensures { result ≡ plain_of kind item error cause seconds }
+fn error_of(component: Component) -> u8
+    ensures { result ≡ error_of component }
+{
+    match component {
+        Component::Error(n) => n,
+        _ => 0,
+    }
+}
+
+// An event that says nothing but its kind.
+fn only(kind: Kind) -> Reading
+    ensures { result ≡ plain_of kind 0 0 0 0 }
 {
     Reading {
-        kind: kind,
-        item: item,
+        kind,
+        item: 0,
         flags: 0,
         component: Component::Absent(0),
         parts: 0,
-        error: error,
-        cause: cause,
-        seconds: seconds,
+        error: 0,
+        cause: 0,
+        seconds: 0,
         own: ABSENT,
         calling: ABSENT,
         called: ABSENT,
     }
 }
 
-pub(crate) fn read(e: Event) -> Reading
-    ensures { result ≡ read_of e }
-{
-    match e {
-        Event::Opening(role, flags, own) => Reading {
-            kind: Kind::Opens,
-            item: role,
-            flags: flags,
-            component: Component::Absent(0),
-            parts: 0,
-            error: 0,
-            cause: 0,
-            seconds: 0,
-            own: own,
-            calling: ABSENT,
-            called: ABSENT,
-        },
-        Event::Ask(item, called) => Reading {
-            kind: Kind::Asks,
-            item: item,
-            flags: 0,
-            component: Component::Absent(0),
-            parts: 0,
-            error: 0,
-            cause: 0,
-            seconds: 0,
-            own: ABSENT,
-            calling: ABSENT,
-            called: called,
-        },
-        Event::Received(m) => read_message(m),
-        // The access gives no cause: 16 if none.
-        Event::FromAccess(item, error) => plain(Kind::Tells, item, error, NORMAL_CLEARING, 0),
-        Event::Expiry => plain(Kind::Expires, 0, 0, 0, 0),
-        Event::Time(seconds) => plain(Kind::Passes, 0, 0, 0, seconds),
+impl From<Event> for Reading {
+    ghost from_gives = { λ e given. given ≡ read_of e };
+
+    fn from(e: Event) -> Self {
+        match e {
+            Event::Opening(role, flags, own) => Reading {
+                item: role,
+                flags,
+                own,
+                ..only(Kind::Opens)
+            },
+            Event::Ask(item, called) => Reading {
+                item,
+                called,
+                ..only(Kind::Asks)
+            },
+            Event::Received(m) => Reading::from(m),
+            // The access gives no cause: 16 if none.
+            Event::FromAccess(item, error) => Reading {
+                item,
+                error,
+                cause: NORMAL_CLEARING,
+                ..only(Kind::Tells)
+            },
+            Event::Expiry => only(Kind::Expires),
+            Event::Time(seconds) => Reading {
+                seconds,
+                ..only(Kind::Passes)
+            },
+        }
     }
 }
 
-fn read_message(m: Message) -> Reading
-    ensures { result ≡ read_message m }
-{
-    let component = m.component;
-    let calling = m.calling;
-    let called = m.called;
-    let kind = kind_of(m.kind);
-    let error = error_of(component);
-    Reading {
-        kind: kind,
-        item: 0,
-        flags: 0,
-        component: component,
-        parts: m.parts,
-        error: error,
-        cause: m.cause,
-        seconds: m.duration,
-        own: ABSENT,
-        calling: calling,
-        called: called,
+impl From<Message> for Reading {
+    ghost from_gives = { λ m given. given ≡ read_message m };
+
+    fn from(m: Message) -> Self {
+        Reading {
+            component: m.component,
+            parts: m.parts,
+            error: error_of(m.component),
+            cause: m.cause,
+            seconds: m.duration,
+            calling: m.calling,
+            called: m.called,
+            ..only(kind_of(m.kind))
+        }
     }
 }
 
-pub(crate) fn cue_of(r: Reading) -> Cue
-    ensures { result ≡ cue_of r }
-{
-    let kind = r.kind;
-    let component = r.component;
-    let asked = asked_of(r.item);
-    let heard = heard_of(component);
-    let told = told_of(r.item);
-    Cue {
-        kind: kind,
-        asked: asked,
-        heard: heard,
-        told: told,
+impl From<Reading> for Cue {
+    ghost from_gives = { λ r given. given ≡ cue_of r };
+
+    fn from(r: Reading) -> Self {
+        Cue {
+            kind: r.kind,
+            asked: Asked::from(r.item),
+            heard: Heard::from(r.component),
+            told: Told::from(r.item),
+        }
     }
 }
 
 // Which errors are REV's, and so valid: those that 001's module lists (3.4.2, error values), in its order.
-pub(crate) fn listed(n: u8) -> bool
+fn listed(n: u8) -> bool
     ensures { result ≡ listed_of n }
 {
-    (n == USER_NOT_SUBSCRIBED)
-        | (n == REJECTED_BY_NETWORK)
-        | (n == REJECTED_BY_USER)
-        | (n == NOT_AVAILABLE)
-        | (n == INTERACTION_NOT_ALLOWED)
-        | (n == BASIC_SERVICE_NOT_PROVIDED)
-        | (n == RESOURCE_UNAVAILABLE)
-        | (n == USER_IGNORED)
-        | (n == ALREADY_RUNNING)
+    matches!(
+        n,
+        USER_NOT_SUBSCRIBED
+            | REJECTED_BY_NETWORK
+            | REJECTED_BY_USER
+            | NOT_AVAILABLE
+            | INTERACTION_NOT_ALLOWED
+            | BASIC_SERVICE_NOT_PROVIDED
+            | RESOURCE_UNAVAILABLE
+            | USER_IGNORED
+            | ALREADY_RUNNING
+    )
 }
 
-fn interaction_by(allowed: bool) -> Interaction
-    ensures { result ≡ interaction_by allowed }
-{
-    if allowed {
-        Interaction::Allowed
-    } else {
-        Interaction::NotAllowed
+// ---- What the rows look at, in words
+
+impl From<bool> for Interaction {
+    ghost from_gives = { λ allowed given. given ≡ interaction_by allowed };
+
+    fn from(allowed: bool) -> Self {
+        if allowed {
+            Interaction::Allowed
+        } else {
+            Interaction::NotAllowed
+        }
+    }
+}
+
+impl From<bool> for Mode {
+    ghost from_gives = { λ transfer given. given ≡ mode_by transfer };
+
+    fn from(transfer: bool) -> Self {
+        if transfer {
+            Mode::Transfer
+        } else {
+            Mode::NoTransfer
+        }
+    }
+}
+
+impl From<bool> for Extent {
+    ghost from_gives = { λ partial given. given ≡ extent_by partial };
+
+    fn from(partial: bool) -> Self {
+        if partial {
+            Extent::Rest
+        } else {
+            Extent::Entire
+        }
+    }
+}
+
+impl From<bool> for Service {
+    ghost from_gives = { λ unconditional given. given ≡ service_by unconditional };
+
+    fn from(unconditional: bool) -> Self {
+        if unconditional {
+            Service::Unconditional
+        } else {
+            Service::OnRequest
+        }
+    }
+}
+
+impl From<bool> for Correctness {
+    ghost from_gives = { λ listed given. given ≡ correct_by listed };
+
+    fn from(listed: bool) -> Self {
+        if listed {
+            Correctness::Correct
+        } else {
+            Correctness::Incorrect
+        }
     }
 }
 
@@ -241,85 +297,32 @@ fn judged_by(barred: bool, allowed: bool) -> Judged
 {
     if barred {
         Judged::NotSubscribed
+    } else if allowed {
+        Judged::Passed
     } else {
-        if allowed {
-            Judged::Passed
-        } else {
-            Judged::InteractionNotAllowed
-        }
-    }
-}
-
-fn mode_by(transfer: bool) -> Mode
-    ensures { result ≡ mode_by transfer }
-{
-    if transfer {
-        Mode::Transfer
-    } else {
-        Mode::NoTransfer
-    }
-}
-
-fn extent_by(partial: bool) -> Extent
-    ensures { result ≡ extent_by partial }
-{
-    if partial {
-        Extent::Rest
-    } else {
-        Extent::Entire
-    }
-}
-
-fn service_by(unconditional: bool) -> Service
-    ensures { result ≡ service_by unconditional }
-{
-    if unconditional {
-        Service::Unconditional
-    } else {
-        Service::OnRequest
-    }
-}
-
-fn correct_by(listed: bool) -> Correctness
-    ensures { result ≡ correct_by listed }
-{
-    if listed {
-        Correctness::Correct
-    } else {
-        Correctness::Incorrect
+        Judged::InteractionNotAllowed
     }
 }
 
 pub(crate) fn terms_of(f: Flags, at: Stand, r: Reading) -> Terms
     ensures { result ≡ terms_of f at r }
 {
-    let parts = r.parts;
-    let interaction = interaction_by(f.interaction);
-    let judged = judged_by(f.option & !f.subscribed, f.interaction);
-    let mode = mode_by(f.transfer);
-    let service = service_by(f.unconditional);
-    let taken = mode_by(f.transfer & (parts % 2 == 1));
-    let accepted = mode_by(
-        f.transfer & (((parts / ACCEPTED) % 2 == 1) & ((parts / AS_TRANSFER) % 2 == 1)),
-    );
-    let extent = extent_by((parts / 8) % 2 == 1);
-    let agreed = mode_by(at.agreed);
-    let asked = extent_by(at.rest);
-    let correct = correct_by(listed(r.error));
+    let transfer_asked = r.parts % 2 == 1;
+    let transfer_accepted = has(r.parts, ACCEPTED) && has(r.parts, AS_TRANSFER);
     Terms {
-        interaction: interaction,
-        judged: judged,
-        mode: mode,
-        service: service,
-        taken: taken,
-        accepted: accepted,
-        extent: extent,
-        agreed: agreed,
-        asked: asked,
-        called: (parts % 2 == 1) | ((parts / 32) % 2 == 1),
-        calling: (parts / 16) % 2 == 1,
-        duration: (parts / 64) % 2 == 1,
-        correct: correct,
+        interaction: Interaction::from(f.interaction),
+        judged: judged_by(f.option && !f.subscribed, f.interaction),
+        mode: Mode::from(f.transfer),
+        service: Service::from(f.unconditional),
+        taken: Mode::from(f.transfer && transfer_asked),
+        accepted: Mode::from(f.transfer && transfer_accepted),
+        extent: Extent::from(has(r.parts, PARTIAL)),
+        agreed: Mode::from(at.agreed),
+        asked: Extent::from(at.rest),
+        called: transfer_asked || has(r.parts, CALLED_PART),
+        calling: has(r.parts, CALLING_PART),
+        duration: has(r.parts, DURATION_PART),
+        correct: Correctness::from(listed(r.error)),
         error: r.error,
         cause: r.cause,
     }

@@ -1,18 +1,33 @@
 // PLAN: what each row does, in the order of its sentence. A row sees only the terms that it names, and never the call.
 ghost use Rattle.std.specs.Prelude.{◌≡◌};
-ghost use Rattle.rows.specs.Rows.{refuses, needs, quiet, access_error, far_error, sends, acts, turns, clears, stops, access_release};
-ghost use Rattle.rows.specs.Rows.{far_release};
-ghost use Rattle.rows.specs.Rows.{basic_request, basic_answer, answered_here, ask_setup, unconditional_asked, accepted_at_answer};
-ghost use Rattle.rows.specs.Rows.{setup_error, ask_active};
-ghost use Rattle.rows.specs.Rows.{called_asked, accepted_in_call, wait_error, unconditional_failed, plain_iam, setup_asked, setup_confirmed};
-ghost use Rattle.rows.specs.Rows.{setup_refused};
-ghost use Rattle.rows.specs.Rows.{unconditional_accepted, unconditional_connected, active_asked, ask_called, active_confirmed};
-ghost use Rattle.rows.specs.Rows.{active_refused, called_accepted, plan_of};
+ghost use Rattle.rows.specs.Rows.{needs, quiet, access_error, far_error, stops, access_release, far_release, basic_request, basic_answer};
+ghost use Rattle.rows.specs.Rows.{answered_here, ask_setup, unconditional_asked, accepted_at_answer, setup_error, ask_active, called_asked};
+ghost use Rattle.rows.specs.Rows.{accepted_in_call, wait_error, unconditional_failed, plain_iam, setup_asked, setup_confirmed};
+ghost use Rattle.rows.specs.Rows.{setup_refused, unconditional_accepted, unconditional_connected, active_asked, ask_called};
+ghost use Rattle.rows.specs.Rows.{active_confirmed, active_refused, called_accepted, plan_of};
 
+use crate::Act::{
+    AccessAsk, AccessError, AccessRel, AccessSetup, ChargeCalled, ChargeCalling, Nothing,
+    NotifyAccepted, SendAnm, SendFac, SendIam, SendRel, Stop,
+};
+// In this file Error and Result are a message's components.
+use crate::Component::{Absent, Error, Invoke, Result};
+use crate::Correctness::{Correct, Incorrect};
+use crate::Extent::{Entire, Rest};
+use crate::Interaction::{Allowed, NotAllowed};
+use crate::Judged::{InteractionNotAllowed, NotSubscribed, Passed};
+use crate::Mode::{NoTransfer, Transfer};
+use crate::Next::{
+    Stay, ToActive, ToAnswered, ToCleared, ToNull, ToSetup, ToSetupWaitCalled, ToWaitActive,
+    ToWaitActiveConf, ToWaitActiveConfTransfer, ToWaitAnswer, ToWaitAnswerTransfer,
+    ToWaitCalledEntire, ToWaitCalledRest, ToWaitSetup, ToWaitSetupConf, ToWaitSetupConfTransfer,
+};
+use crate::Register::{AsHeld, CalledNumber, CallingNumber, FromOpening};
+use crate::Service::{OnRequest, Unconditional};
 use crate::numbers::{
     AGREED, AGREED_CALLING, AGREED_CALLING_DURATION, ALREADY_RUNNING, APPLIED, BARE,
     BASIC_SERVICE_NOT_PROVIDED, CALLED_REQUEST, CALLING_REQ_ACTIVE, CALLING_REQ_SETUP,
-    FACILITY_REJECTED, INTERACTION_NOT_ALLOWED, NO_ROW, NORMAL_CLEARING, NOT_AVAILABLE, OWN_CALLED,
+    FACILITY_REJECTED, INTERACTION_NOT_ALLOWED, NORMAL_CLEARING, NOT_AVAILABLE, OWN_CALLED,
     PART_ABSENT, PARTIAL_CALLED, TIMER_EXPIRY, TRANSFER, TRANSFER_CALLING, TRANSFER_PARTIAL,
     USER_IGNORED, USER_NOT_SUBSCRIBED,
 };
@@ -21,48 +36,60 @@ use crate::{
     Service, Terms,
 };
 use meters::Change;
+use meters::Change::{
+    Begin, CalledPays, CallerPays, DurationReceived, EntireToCalled, EntireToFar, FarPays, Keep,
+    NobodyPays, TimePasses,
+};
 
 // ---- The shapes of a plan.
 
-// No row, or a needed part that is absent.
-fn refuses(number: u8) -> Plan
-    ensures { result ≡ refuses number }
-{
-    Plan {
-        number: number,
-        next: Next::Stay,
-        change: Change::Keep,
-        register: Register::AsHeld,
-        first: Act::Nothing,
-        second: Act::Nothing,
-        third: Act::Nothing,
-        fourth: Act::Nothing,
-        component: Component::Absent(0),
-        parts: BARE,
-        error: 0,
-        cause: 0,
-    }
-}
+// A row that answers nothing and leaves the call as it is. What a row does besides is named in its plan.
+const NOTHING_DONE: Plan = Plan {
+    number: APPLIED,
+    next: Stay,
+    change: Keep,
+    register: AsHeld,
+    first: Nothing,
+    second: Nothing,
+    third: Nothing,
+    fourth: Nothing,
+    component: Absent(0),
+    parts: BARE,
+    error: 0,
+    cause: 0,
+};
+
+// The call clears.
+const CLEARING: Plan = Plan {
+    next: ToCleared,
+    change: NobodyPays,
+    ..NOTHING_DONE
+};
 
 // 01, number 4: a part that the row needs is there, or not.
 fn needs(there: bool, plan: Plan) -> Plan
     ensures { result ≡ needs there plan }
 {
-    if there { plan } else { refuses(PART_ABSENT) }
+    if there {
+        plan
+    } else {
+        Plan {
+            number: PART_ABSENT,
+            ..NOTHING_DONE
+        }
+    }
 }
 
 // No action.
 fn quiet(next: Next, change: Change, register: Register) -> Plan
     ensures { result ≡ quiet next change register }
 {
-    acts(
+    Plan {
         next,
         change,
         register,
-        Act::Nothing,
-        Act::Nothing,
-        Act::Nothing,
-    )
+        ..NOTHING_DONE
+    }
 }
 
 // An error to the own access; the call goes on.
@@ -70,18 +97,10 @@ fn access_error(next: Next, error: u8) -> Plan
     ensures { result ≡ access_error next error }
 {
     Plan {
-        number: APPLIED,
-        next: next,
-        change: Change::Keep,
-        register: Register::AsHeld,
-        first: Act::AccessError,
-        second: Act::Nothing,
-        third: Act::Nothing,
-        fourth: Act::Nothing,
-        component: Component::Absent(0),
-        parts: BARE,
-        error: error,
-        cause: 0,
+        next,
+        first: AccessError,
+        error,
+        ..NOTHING_DONE
     }
 }
 
@@ -89,109 +108,11 @@ fn access_error(next: Next, error: u8) -> Plan
 fn far_error(next: Next, error: u8) -> Plan
     ensures { result ≡ far_error next error }
 {
-    sends(
+    Plan {
         next,
-        Change::Keep,
-        Register::AsHeld,
-        Act::SendFac,
-        Component::Error(error),
-        BARE,
-    )
-}
-
-// One message.
-fn sends(
-    next: Next,
-    change: Change,
-    register: Register,
-    by: Act,
-    component: Component,
-    parts: u8,
-) -> Plan
-    ensures { result ≡ sends next change register by component parts }
-{
-    Plan {
-        number: APPLIED,
-        next: next,
-        change: change,
-        register: register,
-        first: by,
-        second: Act::Nothing,
-        third: Act::Nothing,
-        fourth: Act::Nothing,
-        component: component,
-        parts: parts,
-        error: 0,
-        cause: 0,
-    }
-}
-
-// Actions of this exchange alone.
-fn acts(next: Next, change: Change, register: Register, first: Act, second: Act, third: Act) -> Plan
-    ensures { result ≡ acts next change register first second third }
-{
-    Plan {
-        number: APPLIED,
-        next: next,
-        change: change,
-        register: register,
-        first: first,
-        second: second,
-        third: third,
-        fourth: Act::Nothing,
-        component: Component::Absent(0),
-        parts: BARE,
-        error: 0,
-        cause: 0,
-    }
-}
-
-// The reversal takes effect, with a message among the actions.
-fn turns(
-    change: Change,
-    register: Register,
-    first: Act,
-    second: Act,
-    third: Act,
-    fourth: Act,
-    component: Component,
-    parts: u8,
-) -> Plan
-    ensures { result ≡ turns change register first second third fourth component parts }
-{
-    Plan {
-        number: APPLIED,
-        next: Next::ToActive,
-        change: change,
-        register: register,
-        first: first,
-        second: second,
-        third: third,
-        fourth: fourth,
-        component: component,
-        parts: parts,
-        error: 0,
-        cause: 0,
-    }
-}
-
-// The call clears.
-fn clears(first: Act, second: Act, third: Act, component: Component, error: u8, cause: u8) -> Plan
-    ensures { result ≡ clears first second third component error cause }
-{
-    Plan {
-        number: APPLIED,
-        next: Next::ToCleared,
-        change: Change::NobodyPays,
-        register: Register::AsHeld,
-        first: first,
-        second: second,
-        third: third,
-        fourth: Act::Nothing,
-        component: component,
-        parts: BARE,
-        error: error,
-        cause: cause,
+        first: SendFac,
+        component: Error(error),
+        ..NOTHING_DONE
     }
 }
 
@@ -199,35 +120,39 @@ fn clears(first: Act, second: Act, third: Act, component: Component, error: u8, 
 fn stops(by: Act, component: Component, cause: u8) -> Plan
     ensures { result ≡ stops by component cause }
 {
-    clears(Act::Stop, by, Act::Nothing, component, 0, cause)
+    Plan {
+        first: Stop,
+        second: by,
+        component,
+        cause,
+        ..CLEARING
+    }
 }
 
 // An error and its cause to the own access, and what follows; the call clears.
 fn access_release(last: Act, error: u8, cause: u8) -> Plan
     ensures { result ≡ access_release last error cause }
 {
-    clears(
-        Act::AccessError,
-        Act::AccessRel,
-        last,
-        Component::Absent(0),
+    Plan {
+        first: AccessError,
+        second: AccessRel,
+        third: last,
         error,
         cause,
-    )
+        ..CLEARING
+    }
 }
 
 // A release with an error to the other exchange; the call clears.
 fn far_release(error: u8, cause: u8) -> Plan
     ensures { result ≡ far_release error cause }
 {
-    clears(
-        Act::SendRel,
-        Act::Nothing,
-        Act::Nothing,
-        Component::Error(error),
-        0,
+    Plan {
+        first: SendRel,
+        component: Error(error),
         cause,
-    )
+        ..CLEARING
+    }
 }
 
 // ---- The rows that need more than a word.
@@ -236,56 +161,47 @@ fn far_release(error: u8, cause: u8) -> Plan
 fn basic_request() -> Plan
     ensures { result ≡ basic_request }
 {
-    sends(
-        Next::ToSetup,
-        Change::Keep,
-        Register::CalledNumber,
-        Act::SendIam,
-        Component::Absent(0),
-        BARE,
-    )
+    Plan {
+        next: ToSetup,
+        register: CalledNumber,
+        first: SendIam,
+        ..NOTHING_DONE
+    }
 }
 
 // O5: 01, "A basic answer at the originating exchange gives CHARGE CALLING".
 fn basic_answer() -> Plan
     ensures { result ≡ basic_answer }
 {
-    acts(
-        Next::ToAnswered,
-        Change::CallerPays,
-        Register::AsHeld,
-        Act::ChargeCalling,
-        Act::Nothing,
-        Act::Nothing,
-    )
+    Plan {
+        next: ToAnswered,
+        change: CallerPays,
+        first: ChargeCalling,
+        ..NOTHING_DONE
+    }
 }
 
 // D9: 01, "answer without REV gives ANM".
 fn answered_here() -> Plan
     ensures { result ≡ answered_here }
 {
-    sends(
-        Next::ToAnswered,
-        Change::FarPays,
-        Register::AsHeld,
-        Act::SendAnm,
-        Component::Absent(0),
-        BARE,
-    )
+    Plan {
+        next: ToAnswered,
+        change: FarPays,
+        first: SendAnm,
+        ..NOTHING_DONE
+    }
 }
 
 // D2, D20, D21: 3.5.2.5.5.2, first sentence; i, ii.
 fn unconditional_failed() -> Plan
     ensures { result ≡ unconditional_failed }
 {
-    clears(
-        Act::SendRel,
-        Act::Nothing,
-        Act::Nothing,
-        Component::Absent(0),
-        0,
-        FACILITY_REJECTED,
-    )
+    Plan {
+        first: SendRel,
+        cause: FACILITY_REJECTED,
+        ..CLEARING
+    }
 }
 
 // ---- The rows that choose. What they look at comes in one order: what was judged, how much of the call, transfer or not, which
@@ -295,32 +211,25 @@ fn unconditional_failed() -> Plan
 fn ask_setup(interaction: Interaction, mode: Mode) -> Plan
     ensures { result ≡ ask_setup interaction mode }
 {
-    match interaction {
+    match (interaction, mode) {
         // O2
-        Interaction::NotAllowed => access_release(
-            Act::Nothing,
-            INTERACTION_NOT_ALLOWED,
-            FACILITY_REJECTED,
-        ),
-        Interaction::Allowed => match mode {
-            // O3
-            Mode::NoTransfer => sends(
-                Next::ToWaitSetup,
-                Change::Keep,
-                Register::CalledNumber,
-                Act::SendIam,
-                Component::Invoke(CALLING_REQ_SETUP),
-                BARE,
-            ),
-            // O4
-            Mode::Transfer => sends(
-                Next::ToWaitSetup,
-                Change::Keep,
-                Register::CalledNumber,
-                Act::SendIam,
-                Component::Invoke(CALLING_REQ_SETUP),
-                TRANSFER_CALLING,
-            ),
+        (NotAllowed, _) => access_release(Nothing, INTERACTION_NOT_ALLOWED, FACILITY_REJECTED),
+        // O3
+        (Allowed, NoTransfer) => Plan {
+            next: ToWaitSetup,
+            register: CalledNumber,
+            first: SendIam,
+            component: Invoke(CALLING_REQ_SETUP),
+            ..NOTHING_DONE
+        },
+        // O4
+        (Allowed, Transfer) => Plan {
+            next: ToWaitSetup,
+            register: CalledNumber,
+            first: SendIam,
+            component: Invoke(CALLING_REQ_SETUP),
+            parts: TRANSFER_CALLING,
+            ..NOTHING_DONE
         },
     }
 }
@@ -329,31 +238,27 @@ fn ask_setup(interaction: Interaction, mode: Mode) -> Plan
 fn unconditional_asked(interaction: Interaction, mode: Mode, called: bool) -> Plan
     ensures { result ≡ unconditional_asked interaction mode called }
 {
-    match interaction {
+    match (interaction, mode) {
         // O6
-        Interaction::NotAllowed => far_error(Next::Stay, INTERACTION_NOT_ALLOWED),
-        Interaction::Allowed => match mode {
-            // O7
-            Mode::NoTransfer => needs(
-                called,
-                sends(
-                    Next::ToWaitAnswer,
-                    Change::Keep, // charging starts at the answer
-                    Register::CalledNumber,
-                    Act::SendFac,
-                    Component::Result(CALLED_REQUEST),
-                    BARE,
-                ),
-            ),
-            // O8
-            Mode::Transfer => sends(
-                Next::ToWaitAnswerTransfer,
-                Change::Keep,
-                Register::AsHeld,
-                Act::SendFac,
-                Component::Result(CALLED_REQUEST),
-                AGREED_CALLING,
-            ),
+        (NotAllowed, _) => far_error(Stay, INTERACTION_NOT_ALLOWED),
+        // O7: charging starts at the answer
+        (Allowed, NoTransfer) => needs(
+            called,
+            Plan {
+                next: ToWaitAnswer,
+                register: CalledNumber,
+                first: SendFac,
+                component: Result(CALLED_REQUEST),
+                ..NOTHING_DONE
+            },
+        ),
+        // O8
+        (Allowed, Transfer) => Plan {
+            next: ToWaitAnswerTransfer,
+            first: SendFac,
+            component: Result(CALLED_REQUEST),
+            parts: AGREED_CALLING,
+            ..NOTHING_DONE
         },
     }
 }
@@ -364,23 +269,20 @@ fn accepted_at_answer(mode: Mode) -> Plan
 {
     match mode {
         // O9, O16
-        Mode::NoTransfer => acts(
-            Next::ToActive,
-            Change::CalledPays,
-            Register::AsHeld,
-            Act::NotifyAccepted,
-            Act::ChargeCalled,
-            Act::Nothing,
-        ),
+        NoTransfer => Plan {
+            next: ToActive,
+            change: CalledPays,
+            first: NotifyAccepted,
+            second: ChargeCalled,
+            ..NOTHING_DONE
+        },
         // O10, O17
-        Mode::Transfer => acts(
-            Next::ToActive,
-            Change::FarPays,
-            Register::AsHeld,
-            Act::NotifyAccepted,
-            Act::Nothing,
-            Act::Nothing,
-        ),
+        Transfer => Plan {
+            next: ToActive,
+            change: FarPays,
+            first: NotifyAccepted,
+            ..NOTHING_DONE
+        },
     }
 }
 
@@ -390,9 +292,9 @@ fn setup_error(correct: Correctness, error: u8, cause: u8) -> Plan
 {
     match correct {
         // O11
-        Correctness::Correct => access_release(Act::Nothing, error, cause),
+        Correct => access_release(Nothing, error, cause),
         // O12
-        Correctness::Incorrect => access_release(Act::Nothing, NOT_AVAILABLE, FACILITY_REJECTED),
+        Incorrect => access_release(Nothing, NOT_AVAILABLE, FACILITY_REJECTED),
     }
 }
 
@@ -400,28 +302,23 @@ fn setup_error(correct: Correctness, error: u8, cause: u8) -> Plan
 fn ask_active(interaction: Interaction, mode: Mode) -> Plan
     ensures { result ≡ ask_active interaction mode }
 {
-    match interaction {
+    match (interaction, mode) {
         // O20
-        Interaction::NotAllowed => access_error(Next::Stay, INTERACTION_NOT_ALLOWED),
-        Interaction::Allowed => match mode {
-            // O21
-            Mode::NoTransfer => sends(
-                Next::ToWaitActive,
-                Change::Keep,
-                Register::AsHeld,
-                Act::SendFac,
-                Component::Invoke(CALLING_REQ_ACTIVE),
-                BARE,
-            ),
-            // O22
-            Mode::Transfer => sends(
-                Next::ToWaitActive,
-                Change::Keep,
-                Register::AsHeld,
-                Act::SendFac,
-                Component::Invoke(CALLING_REQ_ACTIVE),
-                TRANSFER_CALLING,
-            ),
+        (NotAllowed, _) => access_error(Stay, INTERACTION_NOT_ALLOWED),
+        // O21
+        (Allowed, NoTransfer) => Plan {
+            next: ToWaitActive,
+            first: SendFac,
+            component: Invoke(CALLING_REQ_ACTIVE),
+            ..NOTHING_DONE
+        },
+        // O22
+        (Allowed, Transfer) => Plan {
+            next: ToWaitActive,
+            first: SendFac,
+            component: Invoke(CALLING_REQ_ACTIVE),
+            parts: TRANSFER_CALLING,
+            ..NOTHING_DONE
         },
     }
 }
@@ -430,64 +327,60 @@ fn ask_active(interaction: Interaction, mode: Mode) -> Plan
 fn called_asked(interaction: Interaction, extent: Extent, mode: Mode, called: bool) -> Plan
     ensures { result ≡ called_asked interaction extent mode called }
 {
-    match interaction {
+    match (interaction, extent, mode) {
         // O23
-        Interaction::NotAllowed => far_error(Next::Stay, INTERACTION_NOT_ALLOWED),
-        Interaction::Allowed => match extent {
-            Extent::Rest => match mode {
-                // O24
-                Mode::NoTransfer => needs(
-                    called,
-                    turns(
-                        Change::CalledPays,
-                        Register::CalledNumber,
-                        Act::SendFac,
-                        Act::NotifyAccepted,
-                        Act::Stop,
-                        Act::ChargeCalled,
-                        Component::Result(CALLED_REQUEST),
-                        BARE,
-                    ),
-                ),
-                // O25
-                Mode::Transfer => turns(
-                    Change::FarPays,
-                    Register::AsHeld,
-                    Act::SendFac,
-                    Act::NotifyAccepted,
-                    Act::Stop,
-                    Act::Nothing,
-                    Component::Result(CALLED_REQUEST),
-                    AGREED_CALLING,
-                ),
+        (NotAllowed, _, _) => far_error(Stay, INTERACTION_NOT_ALLOWED),
+        // O24
+        (Allowed, Rest, NoTransfer) => needs(
+            called,
+            Plan {
+                next: ToActive,
+                change: CalledPays,
+                register: CalledNumber,
+                first: SendFac,
+                second: NotifyAccepted,
+                third: Stop,
+                fourth: ChargeCalled,
+                component: Result(CALLED_REQUEST),
+                ..NOTHING_DONE
             },
-            Extent::Entire => match mode {
-                // O26
-                Mode::NoTransfer => needs(
-                    called,
-                    turns(
-                        Change::EntireToCalled,
-                        Register::CalledNumber,
-                        Act::SendFac,
-                        Act::NotifyAccepted,
-                        Act::Stop,
-                        Act::ChargeCalled,
-                        Component::Result(CALLED_REQUEST),
-                        BARE,
-                    ),
-                ),
-                // O27
-                Mode::Transfer => turns(
-                    Change::EntireToFar,
-                    Register::AsHeld,
-                    Act::SendFac,
-                    Act::NotifyAccepted,
-                    Act::Stop,
-                    Act::Nothing,
-                    Component::Result(CALLED_REQUEST),
-                    AGREED_CALLING_DURATION,
-                ),
+        ),
+        // O25
+        (Allowed, Rest, Transfer) => Plan {
+            next: ToActive,
+            change: FarPays,
+            first: SendFac,
+            second: NotifyAccepted,
+            third: Stop,
+            component: Result(CALLED_REQUEST),
+            parts: AGREED_CALLING,
+            ..NOTHING_DONE
+        },
+        // O26
+        (Allowed, Entire, NoTransfer) => needs(
+            called,
+            Plan {
+                next: ToActive,
+                change: EntireToCalled,
+                register: CalledNumber,
+                first: SendFac,
+                second: NotifyAccepted,
+                third: Stop,
+                fourth: ChargeCalled,
+                component: Result(CALLED_REQUEST),
+                ..NOTHING_DONE
             },
+        ),
+        // O27
+        (Allowed, Entire, Transfer) => Plan {
+            next: ToActive,
+            change: EntireToFar,
+            first: SendFac,
+            second: NotifyAccepted,
+            third: Stop,
+            component: Result(CALLED_REQUEST),
+            parts: AGREED_CALLING_DURATION,
+            ..NOTHING_DONE
         },
     }
 }
@@ -498,23 +391,22 @@ fn accepted_in_call(mode: Mode) -> Plan
 {
     match mode {
         // O28
-        Mode::NoTransfer => acts(
-            Next::ToActive,
-            Change::CalledPays,
-            Register::AsHeld,
-            Act::NotifyAccepted,
-            Act::Stop,
-            Act::ChargeCalled,
-        ),
+        NoTransfer => Plan {
+            next: ToActive,
+            change: CalledPays,
+            first: NotifyAccepted,
+            second: Stop,
+            third: ChargeCalled,
+            ..NOTHING_DONE
+        },
         // O29
-        Mode::Transfer => acts(
-            Next::ToActive,
-            Change::FarPays,
-            Register::AsHeld,
-            Act::NotifyAccepted,
-            Act::Stop,
-            Act::Nothing,
-        ),
+        Transfer => Plan {
+            next: ToActive,
+            change: FarPays,
+            first: NotifyAccepted,
+            second: Stop,
+            ..NOTHING_DONE
+        },
     }
 }
 
@@ -524,9 +416,9 @@ fn wait_error(correct: Correctness, error: u8) -> Plan
 {
     match correct {
         // O30, D48
-        Correctness::Correct => access_error(Next::ToAnswered, error),
+        Correct => access_error(ToAnswered, error),
         // O31, D49
-        Correctness::Incorrect => access_error(Next::ToAnswered, NOT_AVAILABLE),
+        Incorrect => access_error(ToAnswered, NOT_AVAILABLE),
     }
 }
 
@@ -534,39 +426,30 @@ fn wait_error(correct: Correctness, error: u8) -> Plan
 fn plain_iam(service: Service, interaction: Interaction, mode: Mode) -> Plan
     ensures { result ≡ plain_iam service interaction mode }
 {
-    match service {
+    match (service, interaction, mode) {
         // D1
-        Service::OnRequest => acts(
-            Next::ToSetup,
-            Change::Keep,
-            Register::AsHeld,
-            Act::AccessSetup,
-            Act::Nothing,
-            Act::Nothing,
-        ),
-        Service::Unconditional => match interaction {
-            // D2
-            Interaction::NotAllowed => unconditional_failed(),
-            Interaction::Allowed => match mode {
-                // D3
-                Mode::NoTransfer => sends(
-                    Next::ToSetupWaitCalled,
-                    Change::Keep,
-                    Register::AsHeld,
-                    Act::SendFac,
-                    Component::Invoke(CALLED_REQUEST),
-                    OWN_CALLED,
-                ),
-                // D4
-                Mode::Transfer => sends(
-                    Next::ToSetupWaitCalled,
-                    Change::Keep,
-                    Register::AsHeld,
-                    Act::SendFac,
-                    Component::Invoke(CALLED_REQUEST),
-                    TRANSFER,
-                ),
-            },
+        (OnRequest, _, _) => Plan {
+            next: ToSetup,
+            first: AccessSetup,
+            ..NOTHING_DONE
+        },
+        // D2
+        (Unconditional, NotAllowed, _) => unconditional_failed(),
+        // D3
+        (Unconditional, Allowed, NoTransfer) => Plan {
+            next: ToSetupWaitCalled,
+            first: SendFac,
+            component: Invoke(CALLED_REQUEST),
+            parts: OWN_CALLED,
+            ..NOTHING_DONE
+        },
+        // D4
+        (Unconditional, Allowed, Transfer) => Plan {
+            next: ToSetupWaitCalled,
+            first: SendFac,
+            component: Invoke(CALLED_REQUEST),
+            parts: TRANSFER,
+            ..NOTHING_DONE
         },
     }
 }
@@ -575,34 +458,27 @@ fn plain_iam(service: Service, interaction: Interaction, mode: Mode) -> Plan
 fn setup_asked(judged: Judged, mode: Mode, calling: bool) -> Plan
     ensures { result ≡ setup_asked judged mode calling }
 {
-    match judged {
+    match (judged, mode) {
         // D5
-        Judged::NotSubscribed => far_release(USER_NOT_SUBSCRIBED, FACILITY_REJECTED),
+        (NotSubscribed, _) => far_release(USER_NOT_SUBSCRIBED, FACILITY_REJECTED),
         // D6
-        Judged::InteractionNotAllowed => far_release(INTERACTION_NOT_ALLOWED, FACILITY_REJECTED),
-        Judged::Passed => match mode {
-            // D7
-            Mode::NoTransfer => acts(
-                Next::ToWaitSetupConf,
-                Change::Keep,
-                Register::AsHeld,
-                Act::AccessAsk,
-                Act::Nothing,
-                Act::Nothing,
-            ),
-            // D8
-            Mode::Transfer => needs(
-                calling,
-                acts(
-                    Next::ToWaitSetupConfTransfer,
-                    Change::Keep,
-                    Register::CallingNumber,
-                    Act::AccessAsk,
-                    Act::Nothing,
-                    Act::Nothing,
-                ),
-            ),
+        (InteractionNotAllowed, _) => far_release(INTERACTION_NOT_ALLOWED, FACILITY_REJECTED),
+        // D7
+        (Passed, NoTransfer) => Plan {
+            next: ToWaitSetupConf,
+            first: AccessAsk,
+            ..NOTHING_DONE
         },
+        // D8
+        (Passed, Transfer) => needs(
+            calling,
+            Plan {
+                next: ToWaitSetupConfTransfer,
+                register: CallingNumber,
+                first: AccessAsk,
+                ..NOTHING_DONE
+            },
+        ),
     }
 }
 
@@ -612,25 +488,24 @@ fn setup_confirmed(mode: Mode) -> Plan
 {
     match mode {
         // D10
-        Mode::NoTransfer => sends(
-            Next::ToActive,
-            Change::FarPays,
-            Register::AsHeld,
-            Act::SendAnm,
-            Component::Result(CALLING_REQ_SETUP),
-            OWN_CALLED,
-        ),
+        NoTransfer => Plan {
+            next: ToActive,
+            change: FarPays,
+            first: SendAnm,
+            component: Result(CALLING_REQ_SETUP),
+            parts: OWN_CALLED,
+            ..NOTHING_DONE
+        },
         // D11
-        Mode::Transfer => turns(
-            Change::CalledPays,
-            Register::AsHeld,
-            Act::ChargeCalled,
-            Act::SendAnm,
-            Act::Nothing,
-            Act::Nothing,
-            Component::Result(CALLING_REQ_SETUP),
-            AGREED,
-        ),
+        Transfer => Plan {
+            next: ToActive,
+            change: CalledPays,
+            first: ChargeCalled,
+            second: SendAnm,
+            component: Result(CALLING_REQ_SETUP),
+            parts: AGREED,
+            ..NOTHING_DONE
+        },
     }
 }
 
@@ -640,9 +515,9 @@ fn setup_refused(correct: Correctness, error: u8, cause: u8) -> Plan
 {
     match correct {
         // D12
-        Correctness::Correct => far_release(error, cause),
+        Correct => far_release(error, cause),
         // D13
-        Correctness::Incorrect => far_release(NOT_AVAILABLE, FACILITY_REJECTED),
+        Incorrect => far_release(NOT_AVAILABLE, FACILITY_REJECTED),
     }
 }
 
@@ -652,23 +527,13 @@ fn unconditional_accepted(mode: Mode, calling: bool) -> Plan
 {
     match mode {
         // D18
-        Mode::NoTransfer => acts(
-            Next::ToWaitAnswer,
-            Change::Keep,
-            Register::AsHeld,
-            Act::NotifyAccepted,
-            Act::Nothing,
-            Act::Nothing,
-        ),
+        NoTransfer => Plan {
+            next: ToWaitAnswer,
+            first: NotifyAccepted,
+            ..NOTHING_DONE
+        },
         // D19
-        Mode::Transfer => needs(
-            calling,
-            quiet(
-                Next::ToWaitAnswerTransfer,
-                Change::Keep,
-                Register::CallingNumber,
-            ),
-        ),
+        Transfer => needs(calling, quiet(ToWaitAnswerTransfer, Keep, CallingNumber)),
     }
 }
 
@@ -678,25 +543,20 @@ fn unconditional_connected(mode: Mode) -> Plan
 {
     match mode {
         // D22
-        Mode::NoTransfer => sends(
-            Next::ToActive,
-            Change::FarPays,
-            Register::AsHeld,
-            Act::SendAnm,
-            Component::Absent(0),
-            BARE,
-        ),
+        NoTransfer => Plan {
+            next: ToActive,
+            change: FarPays,
+            first: SendAnm,
+            ..NOTHING_DONE
+        },
         // D23
-        Mode::Transfer => turns(
-            Change::CalledPays,
-            Register::AsHeld,
-            Act::ChargeCalled,
-            Act::SendAnm,
-            Act::Nothing,
-            Act::Nothing,
-            Component::Absent(0),
-            BARE,
-        ),
+        Transfer => Plan {
+            next: ToActive,
+            change: CalledPays,
+            first: ChargeCalled,
+            second: SendAnm,
+            ..NOTHING_DONE
+        },
     }
 }
 
@@ -704,34 +564,27 @@ fn unconditional_connected(mode: Mode) -> Plan
 fn active_asked(judged: Judged, mode: Mode, calling: bool) -> Plan
     ensures { result ≡ active_asked judged mode calling }
 {
-    match judged {
+    match (judged, mode) {
         // D26
-        Judged::NotSubscribed => far_error(Next::Stay, USER_NOT_SUBSCRIBED),
+        (NotSubscribed, _) => far_error(Stay, USER_NOT_SUBSCRIBED),
         // D27
-        Judged::InteractionNotAllowed => far_error(Next::Stay, INTERACTION_NOT_ALLOWED),
-        Judged::Passed => match mode {
-            // D28
-            Mode::NoTransfer => acts(
-                Next::ToWaitActiveConf,
-                Change::Keep,
-                Register::AsHeld,
-                Act::AccessAsk,
-                Act::Nothing,
-                Act::Nothing,
-            ),
-            // D29
-            Mode::Transfer => needs(
-                calling,
-                acts(
-                    Next::ToWaitActiveConfTransfer,
-                    Change::Keep,
-                    Register::CallingNumber,
-                    Act::AccessAsk,
-                    Act::Nothing,
-                    Act::Nothing,
-                ),
-            ),
+        (InteractionNotAllowed, _) => far_error(Stay, INTERACTION_NOT_ALLOWED),
+        // D28
+        (Passed, NoTransfer) => Plan {
+            next: ToWaitActiveConf,
+            first: AccessAsk,
+            ..NOTHING_DONE
         },
+        // D29
+        (Passed, Transfer) => needs(
+            calling,
+            Plan {
+                next: ToWaitActiveConfTransfer,
+                register: CallingNumber,
+                first: AccessAsk,
+                ..NOTHING_DONE
+            },
+        ),
     }
 }
 
@@ -739,52 +592,42 @@ fn active_asked(judged: Judged, mode: Mode, calling: bool) -> Plan
 fn ask_called(judged: Judged, extent: Extent, mode: Mode) -> Plan
     ensures { result ≡ ask_called judged extent mode }
 {
-    match judged {
+    match (judged, extent, mode) {
         // D30
-        Judged::NotSubscribed => access_error(Next::Stay, USER_NOT_SUBSCRIBED),
+        (NotSubscribed, _, _) => access_error(Stay, USER_NOT_SUBSCRIBED),
         // D31
-        Judged::InteractionNotAllowed => access_error(Next::Stay, INTERACTION_NOT_ALLOWED),
-        Judged::Passed => match extent {
-            Extent::Rest => match mode {
-                // D32
-                Mode::NoTransfer => sends(
-                    Next::ToWaitCalledRest,
-                    Change::Keep,
-                    Register::AsHeld,
-                    Act::SendFac,
-                    Component::Invoke(CALLED_REQUEST),
-                    PARTIAL_CALLED,
-                ),
-                // D33
-                Mode::Transfer => sends(
-                    Next::ToWaitCalledRest,
-                    Change::Keep,
-                    Register::AsHeld,
-                    Act::SendFac,
-                    Component::Invoke(CALLED_REQUEST),
-                    TRANSFER_PARTIAL,
-                ),
-            },
-            Extent::Entire => match mode {
-                // D34
-                Mode::NoTransfer => sends(
-                    Next::ToWaitCalledEntire,
-                    Change::Keep,
-                    Register::AsHeld,
-                    Act::SendFac,
-                    Component::Invoke(CALLED_REQUEST),
-                    OWN_CALLED,
-                ),
-                // D35
-                Mode::Transfer => sends(
-                    Next::ToWaitCalledEntire,
-                    Change::Keep,
-                    Register::AsHeld,
-                    Act::SendFac,
-                    Component::Invoke(CALLED_REQUEST),
-                    TRANSFER,
-                ),
-            },
+        (InteractionNotAllowed, _, _) => access_error(Stay, INTERACTION_NOT_ALLOWED),
+        // D32
+        (Passed, Rest, NoTransfer) => Plan {
+            next: ToWaitCalledRest,
+            first: SendFac,
+            component: Invoke(CALLED_REQUEST),
+            parts: PARTIAL_CALLED,
+            ..NOTHING_DONE
+        },
+        // D33
+        (Passed, Rest, Transfer) => Plan {
+            next: ToWaitCalledRest,
+            first: SendFac,
+            component: Invoke(CALLED_REQUEST),
+            parts: TRANSFER_PARTIAL,
+            ..NOTHING_DONE
+        },
+        // D34
+        (Passed, Entire, NoTransfer) => Plan {
+            next: ToWaitCalledEntire,
+            first: SendFac,
+            component: Invoke(CALLED_REQUEST),
+            parts: OWN_CALLED,
+            ..NOTHING_DONE
+        },
+        // D35
+        (Passed, Entire, Transfer) => Plan {
+            next: ToWaitCalledEntire,
+            first: SendFac,
+            component: Invoke(CALLED_REQUEST),
+            parts: TRANSFER,
+            ..NOTHING_DONE
         },
     }
 }
@@ -795,25 +638,23 @@ fn active_confirmed(mode: Mode) -> Plan
 {
     match mode {
         // D36
-        Mode::NoTransfer => sends(
-            Next::ToActive,
-            Change::Keep,
-            Register::AsHeld,
-            Act::SendFac,
-            Component::Result(CALLING_REQ_ACTIVE),
-            OWN_CALLED,
-        ),
+        NoTransfer => Plan {
+            next: ToActive,
+            first: SendFac,
+            component: Result(CALLING_REQ_ACTIVE),
+            parts: OWN_CALLED,
+            ..NOTHING_DONE
+        },
         // D37
-        Mode::Transfer => turns(
-            Change::CalledPays,
-            Register::AsHeld,
-            Act::ChargeCalled,
-            Act::SendFac,
-            Act::Nothing,
-            Act::Nothing,
-            Component::Result(CALLING_REQ_ACTIVE),
-            AGREED,
-        ),
+        Transfer => Plan {
+            next: ToActive,
+            change: CalledPays,
+            first: ChargeCalled,
+            second: SendFac,
+            component: Result(CALLING_REQ_ACTIVE),
+            parts: AGREED,
+            ..NOTHING_DONE
+        },
     }
 }
 
@@ -823,9 +664,9 @@ fn active_refused(correct: Correctness, error: u8) -> Plan
 {
     match correct {
         // D38
-        Correctness::Correct => far_error(Next::ToAnswered, error),
+        Correct => far_error(ToAnswered, error),
         // D39
-        Correctness::Incorrect => far_error(Next::ToAnswered, NOT_AVAILABLE),
+        Incorrect => far_error(ToAnswered, NOT_AVAILABLE),
     }
 }
 
@@ -833,42 +674,37 @@ fn active_refused(correct: Correctness, error: u8) -> Plan
 fn called_accepted(extent: Extent, mode: Mode, calling: bool, duration: bool) -> Plan
     ensures { result ≡ called_accepted extent mode calling duration }
 {
-    match mode {
+    match (extent, mode) {
         // D45
-        Mode::NoTransfer => acts(
-            Next::ToActive,
-            Change::Keep,
-            Register::AsHeld,
-            Act::NotifyAccepted,
-            Act::Nothing,
-            Act::Nothing,
-        ),
-        Mode::Transfer => match extent {
-            // D46
-            Extent::Rest => needs(
-                calling,
-                acts(
-                    Next::ToActive,
-                    Change::CalledPays,
-                    Register::CallingNumber,
-                    Act::ChargeCalled,
-                    Act::NotifyAccepted,
-                    Act::Nothing,
-                ),
-            ),
-            // D47
-            Extent::Entire => needs(
-                calling & duration,
-                acts(
-                    Next::ToActive,
-                    Change::DurationReceived,
-                    Register::CallingNumber,
-                    Act::ChargeCalled,
-                    Act::NotifyAccepted,
-                    Act::Nothing,
-                ),
-            ),
+        (_, NoTransfer) => Plan {
+            next: ToActive,
+            first: NotifyAccepted,
+            ..NOTHING_DONE
         },
+        // D46
+        (Rest, Transfer) => needs(
+            calling,
+            Plan {
+                next: ToActive,
+                change: CalledPays,
+                register: CallingNumber,
+                first: ChargeCalled,
+                second: NotifyAccepted,
+                ..NOTHING_DONE
+            },
+        ),
+        // D47
+        (Entire, Transfer) => needs(
+            calling && duration,
+            Plan {
+                next: ToActive,
+                change: DurationReceived,
+                register: CallingNumber,
+                first: ChargeCalled,
+                second: NotifyAccepted,
+                ..NOTHING_DONE
+            },
+        ),
     }
 }
 
@@ -876,63 +712,48 @@ fn called_accepted(extent: Extent, mode: Mode, calling: bool, duration: bool) ->
 pub(crate) fn plan_of(row: Row, t: Terms) -> Plan
     ensures { result ≡ plan_of row t }
 {
-    let interaction = t.interaction;
-    let judged = t.judged;
-    let mode = t.mode;
-    let service = t.service;
-    let taken = t.taken;
-    let accepted = t.accepted;
-    let extent = t.extent;
-    let agreed = t.agreed;
-    let asked = t.asked;
-    let correct = t.correct;
     match row {
-        Row::NoRow => refuses(NO_ROW), // not asked: where there is no row, `takes` says why
-        Row::Opened => quiet(Next::ToNull, Change::Begin, Register::FromOpening), // G1
-        Row::TimeInSetup => quiet(Next::Stay, Change::Keep, Register::AsHeld), // G2
-        Row::TimeCounts => quiet(Next::Stay, Change::TimePasses, Register::AsHeld), // G3
-        Row::ClearedHere => stops(Act::SendRel, Component::Absent(0), NORMAL_CLEARING), // G4, O19, O39, D15, D25, D55
-        Row::Released => stops(Act::AccessRel, Component::Absent(0), t.cause), // G5, O18, O40, D24, D56
-        Row::RunningHere => access_error(Next::Stay, ALREADY_RUNNING), // O35, O37, D43, D53, D57, D59
-        Row::RunningThere => far_error(Next::Stay, ALREADY_RUNNING), // O36, O38, D44, D54, D58, D60
+        Row::Opened => quiet(ToNull, Begin, FromOpening), // G1
+        Row::TimeInSetup => quiet(Stay, Keep, AsHeld), // G2
+        Row::TimeCounts => quiet(Stay, TimePasses, AsHeld), // G3
+        Row::ClearedHere => stops(SendRel, Absent(0), NORMAL_CLEARING), // G4, O19, O39, D15, D25, D55
+        Row::Released => stops(AccessRel, Absent(0), t.cause), // G5, O18, O40, D24, D56
+        Row::RunningHere => access_error(Stay, ALREADY_RUNNING), // O35, O37, D43, D53, D57, D59
+        Row::RunningThere => far_error(Stay, ALREADY_RUNNING), // O36, O38, D44, D54, D58, D60
         Row::BasicRequest => basic_request(), // O1
-        Row::AskSetup => ask_setup(interaction, mode), // O2 to O4
+        Row::AskSetup => ask_setup(t.interaction, t.mode), // O2 to O4
         Row::BasicAnswer => basic_answer(), // O5
-        Row::UnconditionalAsked => unconditional_asked(interaction, taken, t.called), // O6 to O8
-        Row::SetupAccepted => accepted_at_answer(accepted), // O9, O10
-        Row::SetupError => setup_error(correct, t.error, t.cause), // O11, O12
-        Row::SetupReleased => access_release(Act::Nothing, NOT_AVAILABLE, FACILITY_REJECTED), // O13
-        Row::SetupFailed => access_release(Act::SendRel, NOT_AVAILABLE, FACILITY_REJECTED), // O14, O15
-        Row::UnconditionalAnswered => accepted_at_answer(agreed), // O16, O17
-        Row::AskActive => ask_active(interaction, mode), // O20 to O22
-        Row::CalledAsked => called_asked(interaction, extent, taken, t.called), // O23 to O27
-        Row::ActiveAccepted => accepted_in_call(accepted), // O28, O29
-        Row::WaitError => wait_error(correct, t.error), // O30, O31, D48, D49
-        Row::WaitFailed => access_error(Next::ToAnswered, NOT_AVAILABLE), // O32, O33, D50, D51
-        Row::WaitReleased => access_release(Act::Stop, BASIC_SERVICE_NOT_PROVIDED, t.cause), // O34, D52
-        Row::PlainIam => plain_iam(service, interaction, mode), // D1 to D4
-        Row::SetupAsked => setup_asked(judged, taken, t.calling), // D5 to D8
+        Row::UnconditionalAsked => unconditional_asked(t.interaction, t.taken, t.called), // O6 to O8
+        Row::SetupAccepted => accepted_at_answer(t.accepted), // O9, O10
+        Row::SetupError => setup_error(t.correct, t.error, t.cause), // O11, O12
+        Row::SetupReleased => access_release(Nothing, NOT_AVAILABLE, FACILITY_REJECTED), // O13
+        Row::SetupFailed => access_release(SendRel, NOT_AVAILABLE, FACILITY_REJECTED), // O14, O15
+        Row::UnconditionalAnswered => accepted_at_answer(t.agreed), // O16, O17
+        Row::AskActive => ask_active(t.interaction, t.mode), // O20 to O22
+        Row::CalledAsked => called_asked(t.interaction, t.extent, t.taken, t.called), // O23 to O27
+        Row::ActiveAccepted => accepted_in_call(t.accepted), // O28, O29
+        Row::WaitError => wait_error(t.correct, t.error), // O30, O31, D48, D49
+        Row::WaitFailed => access_error(ToAnswered, NOT_AVAILABLE), // O32, O33, D50, D51
+        Row::WaitReleased => access_release(Stop, BASIC_SERVICE_NOT_PROVIDED, t.cause), // O34, D52
+        Row::PlainIam => plain_iam(t.service, t.interaction, t.mode), // D1 to D4
+        Row::SetupAsked => setup_asked(t.judged, t.taken, t.calling), // D5 to D8
         Row::AnsweredHere => answered_here(), // D9
-        Row::SetupConfirmed => setup_confirmed(agreed), // D10, D11
-        Row::SetupRefused => setup_refused(correct, t.error, t.cause), // D12, D13
+        Row::SetupConfirmed => setup_confirmed(t.agreed), // D10, D11
+        Row::SetupRefused => setup_refused(t.correct, t.error, t.cause), // D12, D13
         Row::SetupRejected => far_release(NOT_AVAILABLE, FACILITY_REJECTED), // D14
         Row::SetupIgnored => far_release(USER_IGNORED, FACILITY_REJECTED), // D16
         Row::SetupExpired => far_release(BASIC_SERVICE_NOT_PROVIDED, TIMER_EXPIRY), // D17
-        Row::UnconditionalAccepted => unconditional_accepted(accepted, t.calling), // D18, D19
+        Row::UnconditionalAccepted => unconditional_accepted(t.accepted, t.calling), // D18, D19
         Row::UnconditionalFailed => unconditional_failed(), // D20, D21
-        Row::UnconditionalConnected => unconditional_connected(agreed), // D22, D23
-        Row::ActiveAsked => active_asked(judged, taken, t.calling), // D26 to D29
-        Row::AskPartial => ask_called(judged, Extent::Rest, mode), // D30 to D33
-        Row::AskEntire => ask_called(judged, Extent::Entire, mode), // D30, D31, D34, D35
-        Row::ActiveConfirmed => active_confirmed(agreed), // D36, D37
-        Row::ActiveRefused => active_refused(correct, t.error), // D38, D39
-        Row::ActiveRejected => far_error(Next::ToAnswered, NOT_AVAILABLE), // D40
-        Row::ActiveIgnored => far_error(Next::ToAnswered, USER_IGNORED), // D41
-        Row::ActiveCleared => stops(
-            Act::SendRel,
-            Component::Error(BASIC_SERVICE_NOT_PROVIDED),
-            NORMAL_CLEARING,
-        ), // D42
-        Row::CalledAccepted => called_accepted(asked, accepted, t.calling, t.duration), // D45 to D47
+        Row::UnconditionalConnected => unconditional_connected(t.agreed), // D22, D23
+        Row::ActiveAsked => active_asked(t.judged, t.taken, t.calling), // D26 to D29
+        Row::AskPartial => ask_called(t.judged, Rest, t.mode), // D30 to D33
+        Row::AskEntire => ask_called(t.judged, Entire, t.mode), // D30, D31, D34, D35
+        Row::ActiveConfirmed => active_confirmed(t.agreed), // D36, D37
+        Row::ActiveRefused => active_refused(t.correct, t.error), // D38, D39
+        Row::ActiveRejected => far_error(ToAnswered, NOT_AVAILABLE), // D40
+        Row::ActiveIgnored => far_error(ToAnswered, USER_IGNORED), // D41
+        Row::ActiveCleared => stops(SendRel, Error(BASIC_SERVICE_NOT_PROVIDED), NORMAL_CLEARING), // D42
+        Row::CalledAccepted => called_accepted(t.asked, t.accepted, t.calling, t.duration), // D45 to D47
     }
 }

@@ -1,12 +1,12 @@
 // One step of a call.
 ghost use Rattle.std.specs.Prelude.{◌≡◌};
-ghost use Rattle.rows.specs.Step.{unopened_call, total_of, takes_of, if_in_range, is_opening, untimely_of, step_of, may_open, free_of};
+ghost use Rattle.rows.specs.Step.{unopened_call, total_of, takes_of, if_in_range, is_opening, untimely_of, refusal, step_of, free_of};
 ghost use Rattle.rows.specs.Valid.{event_ok};
 
 use crate::numbers::{BAD_FIELD, BEFORE_OPENING, NOT_A_CALL, SLOT_IN_USE};
 use crate::{
-    ABSENT, Call, Event, Flags, Outcome, Phase, RevState, Role, Side, Stand, find, read, rows,
-    valid, why,
+    ABSENT, Call, Cue, Event, Flags, Outcome, Phase, Reading, RevState, Role, Side, Stand, find,
+    read, rows, valid, why,
 };
 use meters::Meters;
 
@@ -15,7 +15,6 @@ impl Call {
     pub fn unopened() -> Call
         ensures { result ≡ unopened_call }
     {
-        let m = Meters::new();
         Call {
             side: Side {
                 role: Role::Originating,
@@ -36,7 +35,7 @@ impl Call {
                 agreed: false,
                 rest: false,
             },
-            meters: m,
+            meters: Meters::new(),
         }
     }
 
@@ -44,30 +43,21 @@ impl Call {
     pub fn total(self) -> u32
         ensures { result ≡ total_of self }
     {
-        let m = self.meters;
-        m.total
+        self.meters.total
     }
 
     // Find, plan, perform; where no row was found, say why.
     fn takes(self, e: Event) -> Outcome
         ensures { result ≡ takes_of self e }
     {
-        let side = self.side;
-        let stand = self.stand;
-        let role = side.role;
-        let flags = side.flags;
-        let phase = stand.phase;
-        let rev = stand.rev;
-        let r = read::read(e);
-        let cue = read::cue_of(r);
-        let row = find::row_for(role, phase, rev, cue);
-        if why::is_row(row) {
-            let terms = read::terms_of(flags, stand, r);
-            let plan = rows::plan_of(row, terms);
-            self.perform(plan, r)
-        } else {
-            let n = why::why(role, phase, cue);
-            self.refused(n)
+        let r = Reading::from(e);
+        let cue = Cue::from(r);
+        match find::row_for(self.side.role, self.stand.phase, self.stand.rev, cue) {
+            Some(row) => {
+                let terms = read::terms_of(self.side.flags, self.stand, r);
+                self.perform(rows::plan_of(row, terms), r)
+            }
+            None => self.refused(why::why(self.side.role, self.stand.phase, cue)),
         }
     }
 
@@ -75,11 +65,9 @@ impl Call {
     fn ranged(self, e: Event) -> Outcome
         ensures { result ≡ if_in_range (event_ok e) self e }
     {
-        let field = valid::bad_field(e);
-        if field == 0 {
-            self.takes(e)
-        } else {
-            self.refused_at(BAD_FIELD, field)
+        match valid::bad_field(e) {
+            None => self.takes(e),
+            Some(field) => self.refused_at(BAD_FIELD, field),
         }
     }
 
@@ -87,17 +75,12 @@ impl Call {
     pub fn step(self, e: Event) -> Outcome
         ensures { result ≡ step_of self e }
     {
-        let stand = self.stand;
-        let phase = stand.phase;
-        if valid::valid(self) {
-            let number = untimely(phase, e);
-            if number == 0 {
-                self.ranged(e)
-            } else {
-                self.refused(number)
-            }
-        } else {
+        if !valid::valid(self) {
             self.refused(NOT_A_CALL)
+        } else if let Some(number) = untimely(self.stand.phase, e) {
+            self.refused(number)
+        } else {
+            self.ranged(e)
         }
     }
 
@@ -105,9 +88,7 @@ impl Call {
     pub fn is_free(self) -> bool
         ensures { result ≡ free_of self }
     {
-        let stand = self.stand;
-        let phase = stand.phase;
-        valid::valid(self) & may_open(phase)
+        valid::valid(self) && matches!(self.stand.phase, Phase::Unopened | Phase::Cleared)
     }
 }
 
@@ -120,41 +101,13 @@ impl Outcome {
     }
 }
 
-// 17 or 20, or 0 where the event comes in its time.
-fn untimely(phase: Phase, e: Event) -> u8
-    ensures { result ≡ untimely_of phase (is_opening e) }
+// 17 or 20, or None where the event comes in its time.
+fn untimely(phase: Phase, e: Event) -> Option<u8>
+    ensures { result ≡ refusal (untimely_of phase (is_opening e)) }
 {
-    let opens = is_opening(e);
-    match phase {
-        Phase::Unopened => if opens { 0 } else { BEFORE_OPENING },
-        Phase::Null => if opens { SLOT_IN_USE } else { 0 },
-        Phase::Setup => if opens { SLOT_IN_USE } else { 0 },
-        Phase::Answered => if opens { SLOT_IN_USE } else { 0 },
-        Phase::Cleared => 0,
-    }
-}
-
-fn is_opening(e: Event) -> bool
-    ensures { result ≡ is_opening e }
-{
-    match e {
-        Event::Opening(_, _, _) => true,
-        Event::Ask(_, _) => false,
-        Event::Received(_) => false,
-        Event::FromAccess(_, _) => false,
-        Event::Expiry => false,
-        Event::Time(_) => false,
-    }
-}
-
-fn may_open(phase: Phase) -> bool
-    ensures { result ≡ may_open phase }
-{
-    match phase {
-        Phase::Unopened => true,
-        Phase::Null => false,
-        Phase::Setup => false,
-        Phase::Answered => false,
-        Phase::Cleared => true,
+    match (phase, matches!(e, Event::Opening(..))) {
+        (Phase::Unopened, false) => Some(BEFORE_OPENING),
+        (Phase::Null | Phase::Setup | Phase::Answered, true) => Some(SLOT_IN_USE),
+        _ => None,
     }
 }

@@ -1,108 +1,40 @@
 // Which calls the table of document 01 allows (else 9), and which events have their fields in range (else 3).
 ghost use Rattle.std.specs.Prelude.{◌||◌, not, ◌≡◌};
-ghost use Rattle.rows.specs.Valid.{idle_only, originating_setup, originating_answered, destination_setup, destination_answered, placed_of};
-ghost use Rattle.rows.specs.Valid.{ten_to, in_range, unmetered, payer_nobody, payer_there, tallied, metered_of, paying_there, paying_of};
-ghost use Rattle.rows.specs.Valid.{numbers_held, valid_of, number_there, number_absent, number_if, pickℕ, first_false, opening_ranges, ask_ranges};
+ghost use Rattle.rows.specs.Valid.{placed_of, ten_to, in_range, unmetered, tallied, metered_of, paying_there, paying_of};
+ghost use Rattle.rows.specs.Valid.{numbers_held, valid_of, number_there, number_absent, number_if, ordinal, first_false, opening_ranges, ask_ranges};
 ghost use Rattle.rows.specs.Valid.{code_ok, item_ok, parts_ok, carried_ranges, message_ranges, access_ranges, time_ranges, bad_field_of};
 
-use crate::numbers::{DAY, FAC, IAM};
+use crate::numbers::{
+    ACCEPTED, AS_TRANSFER, CALLED_PART, CALLING_PART, DAY, DURATION_PART, FAC, IAM, has,
+};
 use crate::telephone::national;
-use crate::{Call, Component, Event, Message, Number, Phase, RevState, Role, Side};
+use crate::{ABSENT, Call, Component, Event, Message, Number, Phase, RevState, Role, Side};
 use meters::{Meters, Payer};
 
 // ---- 9: a call that a host hands in
-
-fn idle_only(s: RevState) -> bool
-    ensures { result ≡ idle_only s }
-{
-    match s {
-        RevState::Idle => true,
-        RevState::WaitSetup => false,
-        RevState::WaitActive => false,
-        RevState::WaitAnswer => false,
-        RevState::Active => false,
-        RevState::WaitSetupConf => false,
-        RevState::WaitActiveConf => false,
-        RevState::WaitCalled => false,
-    }
-}
-
-fn originating_setup(s: RevState) -> bool
-    ensures { result ≡ originating_setup s }
-{
-    match s {
-        RevState::Idle => true,
-        RevState::WaitSetup => true,
-        RevState::WaitActive => false,
-        RevState::WaitAnswer => true,
-        RevState::Active => false,
-        RevState::WaitSetupConf => false,
-        RevState::WaitActiveConf => false,
-        RevState::WaitCalled => false,
-    }
-}
-
-fn originating_answered(s: RevState) -> bool
-    ensures { result ≡ originating_answered s }
-{
-    match s {
-        RevState::Idle => true,
-        RevState::WaitSetup => false,
-        RevState::WaitActive => true,
-        RevState::WaitAnswer => false,
-        RevState::Active => true,
-        RevState::WaitSetupConf => false,
-        RevState::WaitActiveConf => false,
-        RevState::WaitCalled => false,
-    }
-}
-
-fn destination_setup(s: RevState) -> bool
-    ensures { result ≡ destination_setup s }
-{
-    match s {
-        RevState::Idle => true,
-        RevState::WaitSetup => false,
-        RevState::WaitActive => false,
-        RevState::WaitAnswer => true,
-        RevState::Active => false,
-        RevState::WaitSetupConf => true,
-        RevState::WaitActiveConf => false,
-        RevState::WaitCalled => true,
-    }
-}
-
-fn destination_answered(s: RevState) -> bool
-    ensures { result ≡ destination_answered s }
-{
-    match s {
-        RevState::Idle => true,
-        RevState::WaitSetup => false,
-        RevState::WaitActive => false,
-        RevState::WaitAnswer => false,
-        RevState::Active => true,
-        RevState::WaitSetupConf => false,
-        RevState::WaitActiveConf => true,
-        RevState::WaitCalled => true,
-    }
-}
 
 // The table of phases and REV states.
 fn placed(role: Role, phase: Phase, s: RevState) -> bool
     ensures { result ≡ placed_of role phase s }
 {
-    match phase {
-        Phase::Unopened => idle_only(s),
-        Phase::Null => idle_only(s),
-        Phase::Setup => match role {
-            Role::Originating => originating_setup(s),
-            Role::Destination => destination_setup(s),
-        },
-        Phase::Answered => match role {
-            Role::Originating => originating_answered(s),
-            Role::Destination => destination_answered(s),
-        },
-        Phase::Cleared => idle_only(s),
+    match (phase, role) {
+        (Phase::Unopened | Phase::Null | Phase::Cleared, _) => matches!(s, RevState::Idle),
+        (Phase::Setup, Role::Originating) => matches!(
+            s,
+            RevState::Idle | RevState::WaitSetup | RevState::WaitAnswer
+        ),
+        (Phase::Setup, Role::Destination) => matches!(
+            s,
+            RevState::Idle | RevState::WaitAnswer | RevState::WaitSetupConf | RevState::WaitCalled
+        ),
+        (Phase::Answered, Role::Originating) => matches!(
+            s,
+            RevState::Idle | RevState::WaitActive | RevState::Active
+        ),
+        (Phase::Answered, Role::Destination) => matches!(
+            s,
+            RevState::Idle | RevState::WaitActiveConf | RevState::WaitCalled | RevState::Active
+        ),
     }
 }
 
@@ -136,39 +68,13 @@ fn ten_to(count: u8) -> u64
 pub fn in_range(n: Number) -> bool
     ensures { result ≡ in_range n }
 {
-    let top = ten_to(n.count);
-    let nature = n.nature;
-    let home = national(nature);
-    (n.value < top) & (home | (1 <= n.count))
+    n.value < ten_to(n.count) && (national(n.nature) || 1 <= n.count)
 }
 
 fn unmetered(m: Meters) -> bool
     ensures { result ≡ unmetered m }
 {
-    (m.caller == 0) & (m.called == 0) & (m.far == 0) & (m.total == 0)
-}
-
-fn payer_nobody(p: Payer) -> bool
-    ensures { result ≡ payer_nobody p }
-{
-    match p {
-        Payer::Nobody => true,
-        Payer::Caller => false,
-        Payer::Called => false,
-        Payer::Far => false,
-    }
-}
-
-// The payers of an ANSWERED call at a destination.
-fn payer_there(p: Payer) -> bool
-    ensures { result ≡ payer_there p }
-{
-    match p {
-        Payer::Nobody => false,
-        Payer::Caller => false,
-        Payer::Called => true,
-        Payer::Far => true,
-    }
+    m.caller == 0 && m.called == 0 && m.far == 0 && m.total == 0
 }
 
 // At the originating exchange the total is the sum of the meters, and so has its limit. At a destination, where the caller is never
@@ -178,10 +84,7 @@ fn tallied(role: Role, m: Meters) -> bool
 {
     match role {
         Role::Originating => m.adds_up(),
-        Role::Destination => {
-            let lasted = m.total_within();
-            (m.caller == 0) & lasted
-        }
+        Role::Destination => m.caller == 0 && m.total_within(),
     }
 }
 
@@ -190,11 +93,8 @@ fn metered(role: Role, phase: Phase, m: Meters) -> bool
     ensures { result ≡ metered_of role phase m }
 {
     match phase {
-        Phase::Unopened => unmetered(m),
-        Phase::Null => unmetered(m),
-        Phase::Setup => unmetered(m),
-        Phase::Answered => tallied(role, m),
-        Phase::Cleared => tallied(role, m),
+        Phase::Unopened | Phase::Null | Phase::Setup => unmetered(m),
+        Phase::Answered | Phase::Cleared => tallied(role, m),
     }
 }
 
@@ -203,8 +103,8 @@ fn paying_there(role: Role, p: Payer) -> bool
     ensures { result ≡ paying_there role p }
 {
     match role {
-        Role::Originating => !payer_nobody(p),
-        Role::Destination => payer_there(p),
+        Role::Originating => p != Payer::Nobody,
+        Role::Destination => matches!(p, Payer::Called | Payer::Far),
     }
 }
 
@@ -213,11 +113,8 @@ fn paying(role: Role, phase: Phase, p: Payer) -> bool
     ensures { result ≡ paying_of role phase p }
 {
     match phase {
-        Phase::Unopened => payer_nobody(p),
-        Phase::Null => payer_nobody(p),
-        Phase::Setup => payer_nobody(p),
         Phase::Answered => paying_there(role, p),
-        Phase::Cleared => payer_nobody(p),
+        Phase::Unopened | Phase::Null | Phase::Setup | Phase::Cleared => p == Payer::Nobody,
     }
 }
 
@@ -225,32 +122,18 @@ fn paying(role: Role, phase: Phase, p: Payer) -> bool
 fn numbers_held(side: Side) -> bool
     ensures { result ≡ numbers_held side }
 {
-    let own = side.own;
-    let calling = side.calling;
-    let called = side.called;
-    let a = in_range(own);
-    let b = in_range(calling);
-    let d = in_range(called);
-    a & (b & d)
+    in_range(side.own) && in_range(side.calling) && in_range(side.called)
 }
 
 // A call that step takes.
 pub(crate) fn valid(c: Call) -> bool
     ensures { result ≡ valid_of c }
 {
-    let side = c.side;
-    let stand = c.stand;
-    let role = side.role;
-    let phase = stand.phase;
-    let rev = stand.rev;
-    let m = c.meters;
-    let p = m.payer;
-    let a = placed(role, phase, rev);
-    let b = metered(role, phase, m);
-    let d = m.within();
-    let f = paying(role, phase, p);
-    let g = numbers_held(side);
-    a & (b & (d & (f & g)))
+    placed(c.side.role, c.stand.phase, c.stand.rev)
+        && metered(c.side.role, c.stand.phase, c.meters)
+        && c.meters.within()
+        && paying(c.side.role, c.stand.phase, c.meters.payer)
+        && numbers_held(c.side)
 }
 
 // ---- 3: a field out of its range
@@ -258,16 +141,13 @@ pub(crate) fn valid(c: Call) -> bool
 fn number_there(n: Number) -> bool
     ensures { result ≡ number_there n }
 {
-    let a = in_range(n);
-    a & (1 <= n.count)
+    in_range(n) && 1 <= n.count
 }
 
 fn number_absent(n: Number) -> bool
     ensures { result ≡ number_absent n }
 {
-    let nature = n.nature;
-    let home = national(nature);
-    (n.count == 0) & ((n.value == 0) & home)
+    n == ABSENT
 }
 
 // There where it should be, and absent where not.
@@ -275,59 +155,53 @@ fn number_if(there: bool, n: Number) -> bool
     ensures { result ≡ number_if there n }
 {
     if there {
-        return number_there(n);
+        number_there(n)
+    } else {
+        number_absent(n)
     }
-    number_absent(n)
 }
 
-// ---- The ordinal of the first field of the body that is out of its range, from 1; 0 where none is
+// ---- The ordinal of the first field of the body that is out of its range, from 1; None where none is
 
-fn either(test: bool, a: u8, b: u8) -> u8
-    ensures { result ≡ pickℕ test a b }
+pub fn opening_bad(role: u8, flags: u8, own: Number) -> Option<u8>
+    ensures { result ≡ ordinal (first_false 1 (opening_ranges role flags own)) }
 {
-    if test { a } else { b }
+    if 1 < role {
+        Some(1)
+    } else if 31 < flags {
+        Some(2)
+    } else if !number_there(own) {
+        Some(3)
+    } else {
+        None
+    }
 }
 
-pub fn opening_bad(role: u8, flags: u8, own: Number) -> u8
-    ensures { result ≡ first_false 1 (opening_ranges role flags own) }
+pub fn ask_bad(q: u8, n: Number) -> Option<u8>
+    ensures { result ≡ ordinal (first_false 1 (ask_ranges q n)) }
 {
-    let there = number_there(own);
-    let third = either(there, 0, 3);
-    let second = either(flags <= 31, third, 2);
-    either(role <= 1, second, 1)
-}
-
-pub fn ask_bad(q: u8, n: Number) -> u8
-    ensures { result ≡ first_false 1 (ask_ranges q n) }
-{
-    let fits = number_if(q <= 1, n);
-    let second = either(fits, 0, 2);
-    either(q <= 3, second, 1)
+    if 3 < q {
+        Some(1)
+    } else if !number_if(q <= 1, n) {
+        Some(2)
+    } else {
+        None
+    }
 }
 
 fn code_ok(x: Component) -> bool
     ensures { result ≡ code_ok x }
 {
-    match x {
-        Component::Absent(_) => true,
-        Component::Invoke(_) => true,
-        Component::Result(_) => true,
-        Component::Error(_) => true,
-        Component::Reject(_) => true,
-        Component::Unknown(_, _) => false,
-    }
+    !matches!(x, Component::Unknown(..))
 }
 
 fn item_ok(x: Component) -> bool
     ensures { result ≡ item_ok x }
 {
     match x {
-        Component::Absent(n) => n == 0,
-        Component::Invoke(n) => (1 <= n) & (n <= 3),
-        Component::Result(n) => (1 <= n) & (n <= 3),
-        Component::Error(_) => true,
-        Component::Reject(n) => n == 0,
-        Component::Unknown(_, _) => true,
+        Component::Absent(n) | Component::Reject(n) => n == 0,
+        Component::Invoke(n) | Component::Result(n) => 1 <= n && n <= 3,
+        Component::Error(_) | Component::Unknown(..) => true,
     }
 }
 
@@ -335,78 +209,81 @@ fn item_ok(x: Component) -> bool
 fn parts_ok(m: Message) -> bool
     ensures { result ≡ parts_ok m }
 {
-    let parts = m.parts;
-    let calling = m.calling;
-    let called = m.called;
-    let a = number_absent(calling);
-    let b = number_absent(called);
-    ((parts <= 127) & (((parts / 2) % 2 == 1) | !((parts / 4) % 2 == 1)))
-        & ((((parts / 16) % 2 == 1) | a)
-            & ((((parts / 32) % 2 == 1) | b) & (((parts / 64) % 2 == 1) | (m.duration == 0))))
+    m.parts <= 127
+        && (has(m.parts, ACCEPTED) || !has(m.parts, AS_TRANSFER))
+        && (has(m.parts, CALLING_PART) || number_absent(m.calling))
+        && (has(m.parts, CALLED_PART) || number_absent(m.called))
+        && (has(m.parts, DURATION_PART) || m.duration == 0)
 }
 
 // In range where it has to be there. (Ten to the count is not looked for where no number is.)
 fn there_if(named: bool, n: Number) -> bool
     ensures { result ≡ (not named || number_there n) }
 {
-    if named {
-        return number_there(n);
-    }
-    true
+    !named || number_there(n)
 }
 
 // What the parts name begins with field 6: the calling number, then the called number, which is 6 where it stands alone. The Duration may
 // be any.
-fn carried_bad(m: Message) -> u8
-    ensures { result ≡ first_false 6 (carried_ranges m) }
+fn carried_bad(m: Message) -> Option<u8>
+    ensures { result ≡ ordinal (first_false 6 (carried_ranges m)) }
 {
-    let calling = m.calling;
-    let called = m.called;
-    let a = there_if((m.parts / 16) % 2 == 1, calling);
-    let b = there_if((m.parts / 32) % 2 == 1, called);
-    let after = either(b, 0, 7);
-    let alone = either(b, 0, 6);
-    let second = either((m.parts / 16) % 2 == 1, after, alone);
-    either(a, second, 6)
+    if !there_if(has(m.parts, CALLING_PART), m.calling) {
+        Some(6)
+    } else if there_if(has(m.parts, CALLED_PART), m.called) {
+        None
+    } else if has(m.parts, CALLING_PART) {
+        Some(7)
+    } else {
+        Some(6)
+    }
 }
 
-pub fn message_bad(m: Message) -> u8
-    ensures { result ≡ first_false 1 (message_ranges m) }
+pub fn message_bad(m: Message) -> Option<u8>
+    ensures { result ≡ ordinal (first_false 1 (message_ranges m)) }
 {
-    let component = m.component;
-    let known = code_ok(component);
-    let fits = item_ok(component);
-    let named = parts_ok(m);
-    let carried = carried_bad(m);
-    let fifth = either(named, carried, 5);
-    let fourth = either(fits, fifth, 4);
-    let third = either(known, fourth, 3);
-    let second = either(m.cause <= 127, third, 2);
-    either((IAM <= m.kind) & (m.kind <= FAC), second, 1)
+    if m.kind < IAM || FAC < m.kind {
+        Some(1)
+    } else if 127 < m.cause {
+        Some(2)
+    } else if !code_ok(m.component) {
+        Some(3)
+    } else if !item_ok(m.component) {
+        Some(4)
+    } else if !parts_ok(m) {
+        Some(5)
+    } else {
+        carried_bad(m)
+    }
 }
 
-pub fn access_bad(a: u8, n: u8) -> u8
-    ensures { result ≡ first_false 1 (access_ranges a n) }
+pub fn access_bad(a: u8, n: u8) -> Option<u8>
+    ensures { result ≡ ordinal (first_false 1 (access_ranges a n)) }
 {
-    let second = either((a == 2) | (n == 0), 0, 2);
-    either((1 <= a) & (a <= 5), second, 1)
+    if a < 1 || 5 < a {
+        Some(1)
+    } else if a != 2 && n != 0 {
+        Some(2)
+    } else {
+        None
+    }
 }
 
-pub fn time_bad(seconds: u32) -> u8
-    ensures { result ≡ first_false 1 (time_ranges seconds) }
+pub fn time_bad(seconds: u32) -> Option<u8>
+    ensures { result ≡ ordinal (first_false 1 (time_ranges seconds)) }
 {
-    either(seconds <= DAY, 0, 1)
+    if DAY < seconds { Some(1) } else { None }
 }
 
-pub(crate) fn bad_field(e: Event) -> u8
-    ensures { result ≡ bad_field_of e }
+pub(crate) fn bad_field(e: Event) -> Option<u8>
+    ensures { result ≡ ordinal (bad_field_of e) }
 {
     match e {
         Event::Opening(role, flags, own) => opening_bad(role, flags, own),
         Event::Ask(q, n) => ask_bad(q, n),
         Event::Received(m) => message_bad(m),
         Event::FromAccess(a, n) => access_bad(a, n),
-        Event::Expiry => 0,
+        Event::Expiry => None,
         Event::Time(seconds) => time_bad(seconds),
     }
 }
