@@ -1,13 +1,13 @@
 -- What the writer's functions put is what its definitions say: bytes of a number, fields, records; and what is answered and left.
 -- Assumes nothing.
-use Rattle.std.proofs.Common.{◌≡◌, ℕ, Result, Ok, Err, ◌+◌, ◌-◌, ◌*◌, ◌/◌, ◌%◌, ◌^◌, ◌<◌, ◌≤◌, Bool, true, false, List, [], ◌∷◌, ◌++◌, length, take, drop, set, sym, refl, ap, ◌∙◌, subst, append_assoc, append-nil, zero-add, add-one, arith, length-append, length-drop, take-append-drop, drop_of_length-le, length-take-le, take_all, drop-drop}
+use Rattle.std.proofs.Common.{◌≡◌, ℕ, Some, None, Result, Ok, Err, ◌+◌, ◌-◌, ◌*◌, ◌/◌, ◌%◌, ◌^◌, ◌<◌, ◌≤◌, Bool, true, false, List, [], ◌∷◌, ◌++◌, length, take, drop, set, sym, refl, ap, ◌∙◌, subst, append_assoc, append-nil, zero-add, add-one, arith, length-append, length-drop, take-append-drop, drop_of_length-le, length-take-le, take_all, drop-drop}
 use lib.Seq.{sets, sets-eq, drop-append_seam}
 use borrow.Rule.Slice.PartMut.{mid_of, put_mid}
 use Rattle.text.specs.Text.{Put}
 use Rattle.text.specs.Choose.{if_lt, if_eq, if_so}
 use Rattle.text.proofs.Cases.{yes_so, no_so, yes_lt, no_lt, both_so, both_lt}
 use Rattle.text.proofs.Laws.{put_none, put_in, put_after, put_as}
-use Rattle.rows.specs.Valid.{event_ok, bad_field_of}
+use Rattle.rows.specs.Valid.{event_ok, ordinal, bad_field_of}
 use Rattle.rows.specs.declared.Component.{Component}
 use Rattle.rows.specs.declared.Event.{Event}
 use Rattle.rows.specs.declared.Event.TheVariants.{Opening, Ask, Received, FromAccess, Expiry, Time}
@@ -15,7 +15,7 @@ use Rattle.rows.specs.declared.Message.{Message}
 use Rattle.rows.specs.declared.Nature.{Nature}
 use Rattle.rows.specs.declared.Nature.TheVariants.{National, International}
 use Rattle.rows.specs.declared.Number.{Number}
-use Rattle.rows.proofs.Ranges.{none_bad_exactly}
+use Rattle.rows.proofs.Ranges.{none_bad_exactly, none_told, some_told}
 use Rattle.files.specs.Bodies.{count_byte, component_of, code_of, item_of, number_values, front_values, carried_values, kind_of, fields_of}
 use Rattle.files.specs.Bodies.{values_of, head_of, record_of, slot_head, slotted_of, entry_of, plain_at}
 use Rattle.files.specs.Bytes.{le_of, part}
@@ -237,7 +237,7 @@ module _ (e f : Event) (g : e ≡ f) where
   pub event_put : (l new : List ℕ) (r : ℕ) → Put l 0 (record_of f) new r → Put l 0 (record_of e) new r
   event_put l new r p = put_as (ap record_of (sym g)) p
 
--- ---- what is answered and left. t: the ordinal of the first field out of range, 0 where there is none; n: the record's length, as it was
+-- ---- what is answered and left. t: the ordinal of the first field out of range, where there is one; n: the record's length, as it was
 -- measured
 
 module _ (e : Event) (out : List ℕ) where
@@ -245,15 +245,16 @@ module _ (e : Event) (out : List ℕ) where
   some_bad true h i = absurd (i ((none_bad_exactly e).1 h))
   some_bad false h i = h
 
-  pub bad_as : (t : ℕ) → t ≡ bad_field_of e → (t ≡ 0 → ⊥) → (Err (BadField t) ≡ written_of e out) × (out ≡ left_of e out)
+  pub bad_as : (t : ℕ) → Some t ≡ ordinal (bad_field_of e) → (Err (BadField t) ≡ written_of e out) × (out ≡ left_of e out)
   unfolding written_of left_of
-  bad_as t g h =
-      let b = some_bad (event_ok e) refl (λ z. h (g ∙ z)) in
-      (no_so _ _ _ _ b (ap (λ (k : ℕ). Err (BadField k)) g), no_so _ _ _ _ b refl)
+  bad_as t h =
+      let s = some_told _ _ h in
+      let b = some_bad (event_ok e) refl s.1 in
+      (no_so _ _ _ _ b (ap (λ (k : ℕ). Err (BadField k)) s.0), no_so _ _ _ _ b refl)
 
-  module _ (t : ℕ) (n : ℕ) (g : t ≡ bad_field_of e) (h : t ≡ 0) (size : n ≡ length (record_of e)) where
+  module _ (n : ℕ) (h : None ≡ ordinal (bad_field_of e)) (size : n ≡ length (record_of e)) where
     good : event_ok e ≡ true
-    good = (none_bad_exactly e).0 (sym g ∙ h)
+    good = (none_bad_exactly e).0 (none_told _ h)
 
     pub narrow_as : length out < n → (Err NoRoom ≡ written_of e out) × (out ≡ left_of e out)
     unfolding written_of left_of

@@ -4,7 +4,6 @@
 ghost use Rattle.std.specs.Prelude.{◌≡◌, ◌+◌, ◌*◌, ◌%◌, ◌^◌, ◌<◌, ◌≤◌, length};
 ghost use Rattle.text.specs.Text.{Put};
 ghost use Rattle.rows.specs.Telephone.{same_number};
-ghost use Rattle.rows.specs.Valid.{bad_field_of};
 ghost use Rattle.rows.specs.declared.Event.TheVariants.{Opening, Ask, Received, FromAccess, Expiry, Time};
 ghost use Rattle.files.specs.Bodies.{count_byte, code_of, item_of, number_values, front_values, carried_values, head_of, record_of, slot_head, plain_at};
 ghost use Rattle.files.specs.Bytes.{le_of, part};
@@ -245,34 +244,17 @@ fn record_size(e: Event) -> usize
     }
 }
 
-// The ordinal of the first field that is out of its range.
-fn bad_field(e: Event) -> u8
-    ensures { result ≡ bad_field_of e }
-{
-    match e {
-        Event::Opening(role, flags, own) => rows::opening_bad(role, flags, own),
-        Event::Ask(item, called) => rows::ask_bad(item, called),
-        Event::Received(m) => rows::message_bad(m),
-        Event::FromAccess(item, error) => rows::access_bad(item, error),
-        Event::Expiry => 0,
-        Event::Time(seconds) => rows::time_bad(seconds),
-    }
-}
-
 // ---- For hosts
 
 // Any event: 3, then 8, then the record.
 pub fn write_event(e: Event, out: &mut [u8]) -> Result<usize, Unwritten>
     ensures { (result ≡ written_of e out.old) × (out.new ≡ left_of e out.old) }
 {
-    let field = bad_field(e);
-    if field != 0 {
-        return Err(Unwritten::BadField(field));
+    match rows::bad_field(e) {
+        Some(field) => Err(Unwritten::BadField(field)),
+        None if out.len() < record_size(e) => Err(Unwritten::NoRoom),
+        None => Ok(put_event(out, e)),
     }
-    if out.len() < record_size(e) {
-        return Err(Unwritten::NoRoom);
-    }
-    Ok(put_event(out, e))
 }
 
 // The six bytes before a record that stands inside one of kind 7: length, kind and slot. `inner` is its length in bytes.
