@@ -1,11 +1,11 @@
 -- What the writer's functions put is what its definitions say: bytes of a number, fields, records; and what is answered and left.
 -- Assumes nothing.
-use Rattle.std.proofs.Common.{◌≡◌, ℕ, Some, None, Result, Ok, Err, ◌+◌, ◌-◌, ◌*◌, ◌/◌, ◌%◌, ◌^◌, ◌<◌, ◌≤◌, Bool, true, false, List, [], ◌∷◌, ◌++◌, length, take, drop, set, sym, refl, ap, ◌∙◌, subst, append_assoc, append-nil, zero-add, add-one, arith, length-append, length-drop, take-append-drop, drop_of_length-le, length-take-le, take_all, drop-drop}
+use Rattle.std.proofs.Common.{◌≡◌, ℕ, Some, None, Result, Ok, Err, ◌+◌, ◌-◌, ◌*◌, ◌/◌, ◌%◌, ◌^◌, ◌<◌, ◌≤◌, Bool, true, false, eqb, List, [], ◌∷◌, ◌++◌, length, take, drop, set, sym, refl, ap, ◌∙◌, subst, append_assoc, append-nil, zero-add, add-one, arith, length-append, length-drop, take-append-drop, drop_of_length-le, length-take-le, take_all, drop-drop}
 use lib.Seq.{sets, sets-eq, drop-append_seam}
 use borrow.Rule.Slice.PartMut.{mid_of, put_mid}
 use Rattle.text.specs.Text.{Put}
 use Rattle.text.specs.Choose.{if_lt, if_eq, if_so}
-use Rattle.text.proofs.Cases.{yes_so, no_so, yes_lt, no_lt, both_so, both_lt}
+use Rattle.text.proofs.Cases.{yes_so, no_so, yes_lt, no_lt, both_so, both_lt, both_eq}
 use Rattle.text.proofs.Laws.{put_none, put_in, put_after, put_as}
 use Rattle.rows.specs.Valid.{event_ok, ordinal, bad_field_of}
 use Rattle.rows.specs.declared.Component.{Component}
@@ -110,25 +110,34 @@ number_as l₀ l₁ l₂ i j k byte n e p q =
     let counted = count_byte n.nature n.count in
     put_field 1 counted (8 ∷ []) (n.value ∷ []) (put_as (ap (le_of 1) e ∙ cut_byte counted) p) (put_last 8 n.value q)
 
--- a number, or a duration, that is there or not: present is 1 or 0
-module _ (l new : List ℕ) (i j present : ℕ) where
-  pub number_put : (n : Number) → present ≡ 1 → Put l i (bytes_of (number_fields 1) (number_values n)) new j
-      → Put l i (bytes_of (number_fields present) (number_values n)) new j
-  number_put n e p = put_as (ap (λ (k : ℕ). bytes_of (number_fields k) (number_values n)) (sym e)) p
+-- a number, or a duration, that is there or not: k is 1 or 0
+module _ (k : ℕ) where
+  -- the room that it takes
+  pub room_if : (n : ℕ) → if_so (eqb k 1) n 0 ≤ n * k
+  unfolding if_eq
+  room_if n = both_eq k 1 (λ (x : ℕ). x ≤ n * k) n 0 (λ e. rw e (omega arith)) (λ _. omega arith)
 
-  pub duration_put : (v : ℕ) → present ≡ 1 → Put l i (le_of 4 v) new j → Put l i (le_of (4 * present) v) new j
-  duration_put v e p = put_as (ap (λ (k : ℕ). le_of (4 * k) v) (sym e)) p
+  module _ (h : k < 2) where
+    number_if_there : (n : Number) → if_so (eqb k 1) (bytes_of (number_fields 1) (number_values n)) [] ≡ bytes_of (number_fields k) (number_values n)
+    unfolding if_eq bytes_of le_of
+    number_if_there n =
+        both_eq k 1 (λ (t : List ℕ). t ≡ bytes_of (number_fields k) (number_values n)) (bytes_of (number_fields 1) (number_values n)) []
+        (λ e. ap (λ (j : ℕ). bytes_of (number_fields j) (number_values n)) (sym e))
+        (λ f. ap (λ (j : ℕ). bytes_of (number_fields j) (number_values n)) (not_one k h f))
 
-module _ (l : List ℕ) (i : ℕ) where
-  pub number_not_put : (n : Number) (present : ℕ) → present < 2 → (present ≡ 1 → ⊥)
-      → Put l i (bytes_of (number_fields present) (number_values n)) l i
-  unfolding bytes_of le_of
-  number_not_put n present g h =
-      put_as {s = bytes_of (number_fields 0) (number_values n)} (ap (λ (k : ℕ). bytes_of (number_fields k) (number_values n)) (not_one present g h)) (put_none l i)
+    duration_if_there : (v : ℕ) → if_so (eqb k 1) (le_of 4 v) [] ≡ le_of (4 * k) v
+    unfolding if_eq le_of
+    duration_if_there v =
+        both_eq k 1 (λ (t : List ℕ). t ≡ le_of (4 * k) v) (le_of 4 v) [] (λ e. ap (λ (j : ℕ). le_of (4 * j) v) (sym e))
+        (λ f. ap (λ (j : ℕ). le_of (4 * j) v) (not_one k h f))
 
-  pub duration_not_put : (v present : ℕ) → present < 2 → (present ≡ 1 → ⊥) → Put l i (le_of (4 * present) v) l i
-  unfolding le_of
-  duration_not_put v present g h = put_as {s = le_of (4 * 0) v} (ap (λ (k : ℕ). le_of (4 * k) v) (not_one present g h)) (put_none l i)
+    module _ (l new : List ℕ) (i j : ℕ) where
+      pub number_put : (n : Number) → Put l i (if_so (eqb k 1) (bytes_of (number_fields 1) (number_values n)) []) new j
+          → Put l i (bytes_of (number_fields k) (number_values n)) new j
+      number_put n p = put_as (number_if_there n) p
+
+      pub duration_put : (v : ℕ) → Put l i (if_so (eqb k 1) (le_of 4 v) []) new j → Put l i (le_of (4 * k) v) new j
+      duration_put v p = put_as (duration_if_there v) p
 
 -- ---- records
 

@@ -1,7 +1,8 @@
 // The writer: an event as a whole record at the start of a lent buffer. Its fields are judged first, then the room; where either is bad
 // nothing is stored. Each length stands as a number beside the fields that it counts: the table of fields, which is the reader's too, holds
 // it to them.
-ghost use Rattle.std.specs.Prelude.{◌≡◌, ◌+◌, ◌*◌, ◌%◌, ◌^◌, ◌<◌, ◌≤◌, length};
+ghost use Rattle.std.specs.Prelude.{◌≡◌, ◌+◌, ◌*◌, ◌%◌, ◌^◌, ◌<◌, ◌≤◌, [], length};
+ghost use Rattle.text.specs.Choose.{if_so};
 ghost use Rattle.text.specs.Text.{Put};
 ghost use Rattle.rows.specs.Telephone.{same_number};
 ghost use Rattle.rows.specs.declared.Event.TheVariants.{Opening, Ask, Received, FromAccess, Expiry, Time};
@@ -78,20 +79,19 @@ fn put_number(out: &mut [u8], at: usize, n: Number) -> usize
 }
 
 // One that has no bytes where its part is not there.
-fn put_number_if(out: &mut [u8], at: usize, present: u8, n: Number) -> usize
-    requires { (at + 9 * present ≤ length out.old) × (present < 2) }
-    ensures put { Put out.old at (bytes_of (number_fields present) (number_values n)) out.new result }
-    ensures value { result ≡ at + 9 * present }
+fn put_number_if(out: &mut [u8], at: usize, present: bool, n: Number) -> usize
+    requires { at + if_so present 9 0 ≤ length out.old }
+    ensures put { Put out.old at (if_so present (bytes_of (number_fields 1) (number_values n)) []) out.new result }
+    ensures value { result ≡ at + if_so present 9 0 }
 {
-    if present == 1 { put_number(out, at, n) } else { at }
+    if present { put_number(out, at, n) } else { at }
 }
 
-fn put_duration_if(out: &mut [u8], at: usize, present: u8, seconds: u32) -> usize
-    requires { (at + 4 * present ≤ length out.old) × (present < 2) }
-    ensures put { Put out.old at (le_of (4 * present) seconds) out.new result }
-    ensures value { result ≡ at + 4 * present }
+fn put_duration_if(out: &mut [u8], at: usize, present: bool, seconds: u32) -> usize
+    requires { at + if_so present 4 0 ≤ length out.old }
+    ensures { Put out.old at (if_so present (le_of 4 seconds) []) out.new result }
 {
-    if present == 1 { put_4(out, at, seconds as u64) } else { at }
+    if present { put_4(out, at, seconds as u64) } else { at }
 }
 
 // The numbers and the duration that are present follow one another.
@@ -99,9 +99,9 @@ fn put_carried(out: &mut [u8], at: usize, m: Message) -> usize
     requires { at + 9 * part m.parts 16 + 9 * part m.parts 32 + 4 * part m.parts 64 ≤ length out.old }
     ensures { Put out.old at (bytes_of (carried_fields m.parts) (carried_values m)) out.new result }
 {
-    let mut to = put_number_if(out, at, m.parts / 16 % 2, m.calling);
-    to = put_number_if(out, to, m.parts / 32 % 2, m.called);
-    put_duration_if(out, to, m.parts / 64 % 2, m.duration)
+    let mut to = put_number_if(out, at, m.parts / 16 % 2 == 1, m.calling);
+    to = put_number_if(out, to, m.parts / 32 % 2 == 1, m.called);
+    put_duration_if(out, to, m.parts / 64 % 2 == 1, m.duration)
 }
 
 pub fn code_of(component: Component) -> u8
