@@ -24,7 +24,8 @@ use Rattle.files.specs.Fields.{expiry_fields, time_fields}
 use Rattle.files.specs.Fields.{size_of, bytes_of}
 use Rattle.files.specs.Frames.{length_with, length_of, slotted_kind}
 use Rattle.files.specs.Write.{written_of, left_of, written_at, left_at, gives_back, slot_gives, slot_leaves, message_with}
-use Rattle.files.specs.declared.Read.{Read}
+use Rattle.files.specs.Bodies.{Reading, got, stopped}
+use Rattle.files.specs.Frames.{stop_number}
 use Rattle.files.specs.declared.Where.{Where}
 use Rattle.files.specs.declared.Where.TheVariants.{Plain, Slot}
 use Rattle.files.specs.declared.Written.{Written}
@@ -32,6 +33,8 @@ use Rattle.files.specs.declared.Written.TheVariants.{Whole, BadField, NoRoom}
 use Rattle.files.proofs.BothWays.{record_length, record_range, slot_head_length, slotted_length}
 use Rattle.files.proofs.Records.{not_one, message_size}
 use Rattle.files.proofs.Same.{answered_of, held_of, HandedOver}
+use Rattle.std.specs.Prelude.{Option, None, Some, Ok, Err}
+use Rattle.files.specs.declared.Unreadable.{Unreadable}
 
 -- ---- the bytes of a number
 
@@ -428,14 +431,14 @@ message_made kind cause code item parts duration component calling calling' call
 
 -- ---- what a host in C is given back for a plain record that it hands over, by the reading of it
 
-module _ (s : List ℕ) (i : ℕ) (out : List ℕ) (f : Read) (e : f ≡ plain_at s 0) where
-  pub handed_none : f ≡ Read.End → HandedOver s i out 5 out
-  handed_none g = subst (λ (x : Read). (5 ≡ slot_gives x i out) × (out ≡ slot_leaves x i out)) (sym g ∙ e) (refl, refl)
+module _ (s : List ℕ) (i : ℕ) (out : List ℕ) (f : Reading) (e : f ≡ plain_at s 0) where
+  pub handed_none : f ≡ None → HandedOver s i out 5 out
+  handed_none g = subst (λ (x : Reading). (5 ≡ slot_gives x i out) × (out ≡ slot_leaves x i out)) (sym g ∙ e) (refl, refl)
 
-  pub handed_stop : (n : ℕ) → f ≡ Read.Stop n → HandedOver s i out n out
-  handed_stop n g = subst (λ (x : Read). (n ≡ slot_gives x i out) × (out ≡ slot_leaves x i out)) (sym g ∙ e) (refl, refl)
+  pub handed_stop : (stop : Unreadable) (n : ℕ) → f ≡ stopped stop → n ≡ stop_number stop → HandedOver s i out n out
+  handed_stop stop n g h = subst (λ (x : Reading). (n ≡ slot_gives x i out) × (out ≡ slot_leaves x i out)) (sym g ∙ e) (h, refl)
 
-  pub handed_got : (w : Where) (x : Event) (next r : ℕ) (a : Written) (new : List ℕ) → f ≡ Read.Got w x next → r ≡ gives_back a
+  pub handed_got : (w : Where) (x : Event) (next r : ℕ) (a : Written) (new : List ℕ) → f ≡ got w x next → r ≡ gives_back a
       → (a ≡ written_at i x out) × (new ≡ left_at i x out) → HandedOver s i out r new
   handed_got w x next r a new g h (k, l) =
-      subst (λ (y : Read). (r ≡ slot_gives y i out) × (new ≡ slot_leaves y i out)) (sym g ∙ e) (h ∙ ap gives_back k, l)
+      subst (λ (y : Reading). (r ≡ slot_gives y i out) × (new ≡ slot_leaves y i out)) (sym g ∙ e) (h ∙ ap gives_back k, l)
