@@ -122,6 +122,7 @@ fn write_event(e: Event, id: u16, out: &mut [u8]) -> u32
 }
 
 // The parameter of an entry, which is an identifier and a record of kind 3. What follows the record is not looked at.
+#[tactic(auto, unfolding(crate::specs::Entries::write_gives, crate::specs::Entries::write_leaves))]
 pub fn rev_write_parameter(entry: &[u8], out: &mut [u8]) -> u32
     ensures { (result ≡ write_gives (record_at entry.now) (identifier_at entry.now) out.old)
         × (out.new ≡ write_leaves (record_at entry.now) (identifier_at entry.now) out.old) }
