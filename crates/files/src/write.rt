@@ -14,8 +14,8 @@ ghost use Rattle.files.specs.declared.Unwritten.TheVariants.{BadField, NoRoom};
 ghost use Rattle.files.specs.Write.{written_of, left_of, written_at, left_at, gives_back, slot_gives, slot_leaves, nature_with, number_with, message_with};
 
 use crate::bodies::{component_of, plain_at};
-use crate::frames::{CUT_SHORT, SLOTTED, length_of};
-use crate::{Read, Unwritten};
+use crate::frames::{SLOTTED, length_of};
+use crate::{Unreadable, Unwritten};
 use rows::{Component, Event, Message, Nature, Number};
 
 // ---- The bytes of a number, least first, where there is room for them: no test of each, so that a field is stored at once.
@@ -447,9 +447,9 @@ pub fn rev_write_slot(slot: u16, inner: &[u8], out: &mut [u8]) -> u32
         × (out.new ≡ slot_leaves (plain_at inner.now 0) slot out.old) }
 {
     match plain_at(inner, 0) {
-        Read::End => CUT_SHORT as u32,
-        Read::Stop(number) => number as u32,
-        Read::Got(_, e, _) => gives_back(write_at_slot(slot, e, out)),
+        None => u32::from(Unreadable::CutShort.number()),
+        Some(Err(stop)) => u32::from(stop.number()),
+        Some(Ok(record)) => gives_back(write_at_slot(slot, record.event, out)),
     }
 }
 
