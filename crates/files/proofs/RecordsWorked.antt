@@ -1,7 +1,7 @@
 -- Worked records, one kind after another: the bytes that the writer has for an event, the event that the reader has for the bytes, and each
 -- refusal with the buffer that it leaves. The definitions compute.
 -- Assumes nothing.
-use Rattle.std.proofs.Common.{◌≡◌, ℕ, true, false, [], ◌∷◌, refl}
+use Rattle.std.proofs.Common.{◌≡◌, ℕ, Ok, Err, true, false, [], ◌∷◌, refl}
 use Rattle.text.specs.Choose.{if_lt, if_le, if_eq, if_so}
 use Rattle.rows.specs.Telephone.{absent}
 use Rattle.rows.specs.declared.Component.{Component}
@@ -16,9 +16,12 @@ use Rattle.files.specs.Bytes.{le_at, le_of}
 use Rattle.files.specs.Fields.{size_of, values_at, bytes_of}
 use Rattle.files.specs.Frames.{length_of, plain_of, plain_frame, kindless_of, outer_of, slotted_frame, frame_at}
 use Rattle.files.specs.Write.{written_of, left_of, written_at, left_at, gives_back, slot_gives, slot_leaves, number_with}
-use Rattle.files.specs.declared.Read.{Read}
+use Rattle.files.specs.Bodies.{Reading, got, stopped}
 use Rattle.files.specs.declared.Where.TheVariants.{Plain, Slot}
-use Rattle.files.specs.declared.Written.TheVariants.{Whole, BadField, NoRoom}
+use Rattle.files.specs.declared.Unwritten.TheVariants.{BadField, NoRoom}
+use Rattle.std.specs.Prelude.{Option, None, Some}
+use Rattle.files.specs.declared.Unreadable.{Unreadable}
+use Rattle.files.specs.declared.Unreadable.TheVariants.{CutShort, BadLength, UnknownKind}
 
 own : Number
 own = record { nature = National; count = 7; value = 5550100 }
@@ -96,33 +99,33 @@ time_bytes = refl
 
 -- ---- what is read of it, at a place with bytes around it
 
-opening_read : read_at (99 ∷ 13 ∷ 0 ∷ 1 ∷ 0 ∷ 0 ∷ 8 ∷ 7 ∷ 20 ∷ 176 ∷ 84 ∷ 0 ∷ 0 ∷ 0 ∷ 0 ∷ 0 ∷ 99 ∷ []) 1 ≡ Read.Got Plain (Opening 0 8 own) 16
+opening_read : read_at (99 ∷ 13 ∷ 0 ∷ 1 ∷ 0 ∷ 0 ∷ 8 ∷ 7 ∷ 20 ∷ 176 ∷ 84 ∷ 0 ∷ 0 ∷ 0 ∷ 0 ∷ 0 ∷ 99 ∷ []) 1 ≡ got Plain (Opening 0 8 own) 16
 unfolding own read_at frame_at plain_frame plain_of length_of event_at opening_at number_if nature_of count_of size_of values_at le_at if_lt if_le if_eq if_so
 opening_read = refl
 
-request_read : read_at (99 ∷ 12 ∷ 0 ∷ 2 ∷ 0 ∷ 1 ∷ 7 ∷ 43 ∷ 176 ∷ 84 ∷ 0 ∷ 0 ∷ 0 ∷ 0 ∷ 0 ∷ 99 ∷ []) 1 ≡ Read.Got Plain (Ask 1 called) 15
+request_read : read_at (99 ∷ 12 ∷ 0 ∷ 2 ∷ 0 ∷ 1 ∷ 7 ∷ 43 ∷ 176 ∷ 84 ∷ 0 ∷ 0 ∷ 0 ∷ 0 ∷ 0 ∷ 99 ∷ []) 1 ≡ got Plain (Ask 1 called) 15
 unfolding called read_at frame_at plain_frame plain_of length_of event_at ask_at number_if nature_of count_of size_of values_at le_at if_lt if_le if_eq if_so
 request_read = refl
 
-abroad_read : read_at (99 ∷ 12 ∷ 0 ∷ 2 ∷ 0 ∷ 1 ∷ 135 ∷ 43 ∷ 176 ∷ 84 ∷ 0 ∷ 0 ∷ 0 ∷ 0 ∷ 0 ∷ 99 ∷ []) 1 ≡ Read.Got Plain (Ask 1 abroad) 15
+abroad_read : read_at (99 ∷ 12 ∷ 0 ∷ 2 ∷ 0 ∷ 1 ∷ 135 ∷ 43 ∷ 176 ∷ 84 ∷ 0 ∷ 0 ∷ 0 ∷ 0 ∷ 0 ∷ 99 ∷ []) 1 ≡ got Plain (Ask 1 abroad) 15
 unfolding abroad read_at frame_at plain_frame plain_of length_of event_at ask_at number_if nature_of count_of size_of values_at le_at if_lt if_le if_eq if_so
 abroad_read = refl
 
 message_read : read_at
     (99 ∷ 29 ∷ 0 ∷ 3 ∷ 0 ∷ 5 ∷ 0 ∷ 1 ∷ 3 ∷ 127 ∷ 143 ∷ 121 ∷ 223 ∷ 13 ∷ 134 ∷ 72 ∷ 112 ∷ 0 ∷ 0 ∷ 7 ∷ 43 ∷ 176 ∷ 84 ∷ 0 ∷ 0 ∷ 0 ∷ 0 ∷ 0 ∷ 120 ∷ 86 ∷ 52 ∷ 18 ∷ 99 ∷ []) 1
-    ≡ Read.Got Plain (message 5 0 (Invoke 3) 127 long called 305419896) 32
+    ≡ got Plain (message 5 0 (Invoke 3) 127 long called 305419896) 32
 unfolding message long called read_at frame_at plain_frame plain_of length_of event_at message_at component_of number_if nature_of count_of size_of values_at le_at if_lt if_le if_eq if_so
 message_read = refl
 
-access_read : read_at (99 ∷ 4 ∷ 0 ∷ 4 ∷ 0 ∷ 2 ∷ 12 ∷ 99 ∷ []) 1 ≡ Read.Got Plain (FromAccess 2 12) 7
+access_read : read_at (99 ∷ 4 ∷ 0 ∷ 4 ∷ 0 ∷ 2 ∷ 12 ∷ 99 ∷ []) 1 ≡ got Plain (FromAccess 2 12) 7
 unfolding read_at frame_at plain_frame plain_of length_of event_at access_at size_of values_at le_at if_lt if_le if_eq if_so
 access_read = refl
 
-expiry_read : read_at (99 ∷ 2 ∷ 0 ∷ 5 ∷ 0 ∷ 99 ∷ []) 1 ≡ Read.Got Plain Expiry 5
+expiry_read : read_at (99 ∷ 2 ∷ 0 ∷ 5 ∷ 0 ∷ 99 ∷ []) 1 ≡ got Plain Expiry 5
 unfolding read_at frame_at plain_frame plain_of length_of event_at size_of values_at le_at if_lt if_le if_eq if_so
 expiry_read = refl
 
-time_read : read_at (99 ∷ 6 ∷ 0 ∷ 6 ∷ 0 ∷ 60 ∷ 0 ∷ 0 ∷ 0 ∷ 99 ∷ []) 1 ≡ Read.Got Plain (Time 60) 9
+time_read : read_at (99 ∷ 6 ∷ 0 ∷ 6 ∷ 0 ∷ 60 ∷ 0 ∷ 0 ∷ 0 ∷ 99 ∷ []) 1 ≡ got Plain (Time 60) 9
 unfolding read_at frame_at plain_frame plain_of length_of event_at time_at size_of values_at le_at if_lt if_le if_eq if_so
 time_read = refl
 
@@ -135,60 +138,60 @@ passed_nature = (refl, refl)
 -- ---- what is answered, and what the buffer then holds
 
 -- just room enough; a byte more, which stays; a byte less: 8, and nothing is written
-expiry_written : (written_of Expiry (9 ∷ 9 ∷ 9 ∷ 9 ∷ []) ≡ Whole 4)
+expiry_written : (written_of Expiry (9 ∷ 9 ∷ 9 ∷ 9 ∷ []) ≡ Ok 4)
     × (left_of Expiry (9 ∷ 9 ∷ 9 ∷ 9 ∷ []) ≡ 2 ∷ 0 ∷ 5 ∷ 0 ∷ [])
     × (left_of Expiry (9 ∷ 9 ∷ 9 ∷ 9 ∷ 9 ∷ []) ≡ 2 ∷ 0 ∷ 5 ∷ 0 ∷ 9 ∷ [])
-    × (written_of Expiry (9 ∷ 9 ∷ 9 ∷ []) ≡ NoRoom)
+    × (written_of Expiry (9 ∷ 9 ∷ 9 ∷ []) ≡ Err NoRoom)
     × (left_of Expiry (9 ∷ 9 ∷ 9 ∷ []) ≡ 9 ∷ 9 ∷ 9 ∷ [])
 unfolding written_of left_of record_of head_of bytes_of size_of le_of if_lt if_so
 expiry_written = (refl, refl, refl, refl, refl)
 
 -- a day and a second is 3, in room enough and in none: 3 comes before 8
-time_refused : (written_of (Time 86401) (9 ∷ 9 ∷ 9 ∷ 9 ∷ 9 ∷ 9 ∷ 9 ∷ 9 ∷ []) ≡ BadField 1)
+time_refused : (written_of (Time 86401) (9 ∷ 9 ∷ 9 ∷ 9 ∷ 9 ∷ 9 ∷ 9 ∷ 9 ∷ []) ≡ Err (BadField 1))
     × (left_of (Time 86401) (9 ∷ 9 ∷ 9 ∷ 9 ∷ 9 ∷ 9 ∷ 9 ∷ 9 ∷ []) ≡ 9 ∷ 9 ∷ 9 ∷ 9 ∷ 9 ∷ 9 ∷ 9 ∷ 9 ∷ [])
-    × (written_of (Time 86401) [] ≡ BadField 1)
-    × (written_of (Time 86400) [] ≡ NoRoom)
+    × (written_of (Time 86401) [] ≡ Err (BadField 1))
+    × (written_of (Time 86400) [] ≡ Err NoRoom)
 unfolding written_of left_of record_of head_of bytes_of size_of le_of if_lt if_so
 time_refused = (refl, refl, refl, refl)
 
 -- out of range: a number or a Duration that the parts do not name; part 4 without part 2; an unknown component; an error with no place
 -- for one; an own number of no digits
-fields_refused : (written_of (message 5 0 (Absent 0) 0 own absent 0) [] ≡ BadField 5)
-    × (written_of (message 5 0 (Absent 0) 16 own absent 1) [] ≡ BadField 5)
-    × (written_of (message 5 0 (Absent 0) 4 absent absent 0) [] ≡ BadField 5)
-    × (written_of (message 5 0 (Unknown 5 0) 0 absent absent 0) [] ≡ BadField 3)
-    × (written_of (message 5 0 (Reject 1) 0 absent absent 0) [] ≡ BadField 4)
-    × (written_of (FromAccess 1 12) [] ≡ BadField 2)
-    × (written_of (Opening 0 0 absent) [] ≡ BadField 3)
+fields_refused : (written_of (message 5 0 (Absent 0) 0 own absent 0) [] ≡ Err (BadField 5))
+    × (written_of (message 5 0 (Absent 0) 16 own absent 1) [] ≡ Err (BadField 5))
+    × (written_of (message 5 0 (Absent 0) 4 absent absent 0) [] ≡ Err (BadField 5))
+    × (written_of (message 5 0 (Unknown 5 0) 0 absent absent 0) [] ≡ Err (BadField 3))
+    × (written_of (message 5 0 (Reject 1) 0 absent absent 0) [] ≡ Err (BadField 4))
+    × (written_of (FromAccess 1 12) [] ≡ Err (BadField 2))
+    × (written_of (Opening 0 0 absent) [] ≡ Err (BadField 3))
 unfolding message own written_of if_so
 fields_refused = (refl, refl, refl, refl, refl, refl, refl)
 
 -- a number of no digits that says it is international, whether a number is wanted there or not; and a count that is no number of digits
-digitless_refused : (written_of (Opening 0 0 digitless) [] ≡ BadField 3)
-    × (written_of (Ask 0 digitless) [] ≡ BadField 2)
-    × (written_of (Ask 2 digitless) [] ≡ BadField 2)
-    × (written_of (Ask 2 absent) [] ≡ NoRoom)
-    × (written_of (message 5 0 (Absent 0) 0 digitless absent 0) [] ≡ BadField 5)
-    × (written_of (message 5 0 (Absent 0) 0 absent digitless 0) [] ≡ BadField 5)
-    × (written_of (message 5 0 (Absent 0) 16 digitless absent 0) [] ≡ BadField 6)
-    × (written_of (message 5 0 (Absent 0) 32 absent digitless 0) [] ≡ BadField 6)
-    × (written_of (Ask 0 (record { nature = National; count = 135; value = 5550123 })) [] ≡ BadField 2)
+digitless_refused : (written_of (Opening 0 0 digitless) [] ≡ Err (BadField 3))
+    × (written_of (Ask 0 digitless) [] ≡ Err (BadField 2))
+    × (written_of (Ask 2 digitless) [] ≡ Err (BadField 2))
+    × (written_of (Ask 2 absent) [] ≡ Err NoRoom)
+    × (written_of (message 5 0 (Absent 0) 0 digitless absent 0) [] ≡ Err (BadField 5))
+    × (written_of (message 5 0 (Absent 0) 0 absent digitless 0) [] ≡ Err (BadField 5))
+    × (written_of (message 5 0 (Absent 0) 16 digitless absent 0) [] ≡ Err (BadField 6))
+    × (written_of (message 5 0 (Absent 0) 32 absent digitless 0) [] ≡ Err (BadField 6))
+    × (written_of (Ask 0 (record { nature = National; count = 135; value = 5550123 })) [] ≡ Err (BadField 2))
 unfolding message digitless written_of record_of head_of bytes_of size_of le_of if_lt if_so
 digitless_refused = (refl, refl, refl, refl, refl, refl, refl, refl, refl)
 
 -- the first of several is told: every field of an opening and of a message, then the called number behind a good calling one. What a host
 -- in C is given has the ordinal above the number
-first_refused : (written_of (Opening 2 32 digitless) [] ≡ BadField 1)
-    × (written_of (Opening 1 32 digitless) [] ≡ BadField 2)
-    × (written_of (message 6 128 (Unknown 5 0) 4 digitless digitless 1) [] ≡ BadField 1)
-    × (written_of (message 5 128 (Unknown 5 0) 4 digitless digitless 1) [] ≡ BadField 2)
-    × (written_of (message 5 0 (Absent 0) 48 own digitless 0) [] ≡ BadField 7)
+first_refused : (written_of (Opening 2 32 digitless) [] ≡ Err (BadField 1))
+    × (written_of (Opening 1 32 digitless) [] ≡ Err (BadField 2))
+    × (written_of (message 6 128 (Unknown 5 0) 4 digitless digitless 1) [] ≡ Err (BadField 1))
+    × (written_of (message 5 128 (Unknown 5 0) 4 digitless digitless 1) [] ≡ Err (BadField 2))
+    × (written_of (message 5 0 (Absent 0) 48 own digitless 0) [] ≡ Err (BadField 7))
     × (gives_back (written_of (message 5 0 (Absent 0) 48 own digitless 0) []) ≡ 1795)
 unfolding message own digitless written_of if_so
 first_refused = (refl, refl, refl, refl, refl, refl)
 
 -- in range, whatever a row would say: any Duration of 4 bytes, any error
-fields_in_range : (written_of (message 5 0 (Error 255) 64 absent absent 4294967295) [] ≡ NoRoom) × (written_of (FromAccess 2 255) [] ≡ NoRoom)
+fields_in_range : (written_of (message 5 0 (Error 255) 64 absent absent 4294967295) [] ≡ Err NoRoom) × (written_of (FromAccess 2 255) [] ≡ Err NoRoom)
 unfolding message written_of record_of head_of bytes_of size_of le_of if_lt if_so
 fields_in_range = (refl, refl)
 
@@ -206,77 +209,77 @@ unfolding message long called slotted_of slot_head record_of head_of bytes_of si
 longest_slotted_bytes = refl
 
 -- read at a place with bytes around them
-slotted_read : (read_at (99 ∷ 12 ∷ 0 ∷ 7 ∷ 0 ∷ 5 ∷ 0 ∷ 6 ∷ 0 ∷ 6 ∷ 0 ∷ 60 ∷ 0 ∷ 0 ∷ 0 ∷ 99 ∷ []) 1 ≡ Read.Got (Slot 5) (Time 60) 15)
-    × (read_at (99 ∷ 8 ∷ 0 ∷ 7 ∷ 0 ∷ 44 ∷ 1 ∷ 2 ∷ 0 ∷ 5 ∷ 0 ∷ 99 ∷ []) 1 ≡ Read.Got (Slot 300) Expiry 11)
+slotted_read : (read_at (99 ∷ 12 ∷ 0 ∷ 7 ∷ 0 ∷ 5 ∷ 0 ∷ 6 ∷ 0 ∷ 6 ∷ 0 ∷ 60 ∷ 0 ∷ 0 ∷ 0 ∷ 99 ∷ []) 1 ≡ got (Slot 5) (Time 60) 15)
+    × (read_at (99 ∷ 8 ∷ 0 ∷ 7 ∷ 0 ∷ 44 ∷ 1 ∷ 2 ∷ 0 ∷ 5 ∷ 0 ∷ 99 ∷ []) 1 ≡ got (Slot 300) Expiry 11)
 unfolding read_at frame_at plain_frame plain_of slotted_frame outer_of kindless_of length_of event_at time_at size_of values_at le_at if_lt if_le if_eq if_so
 slotted_read = (refl, refl)
 
 longest_slotted_read : read_at
     (35 ∷ 0 ∷ 7 ∷ 0 ∷ 5 ∷ 0 ∷ 29 ∷ 0 ∷ 3 ∷ 0 ∷ 5 ∷ 0 ∷ 1 ∷ 3 ∷ 127 ∷ 143 ∷ 121 ∷ 223 ∷ 13 ∷ 134 ∷ 72 ∷ 112 ∷ 0 ∷ 0 ∷ 7 ∷ 43 ∷ 176 ∷ 84 ∷ 0 ∷ 0 ∷ 0 ∷ 0 ∷ 0 ∷ 120 ∷ 86 ∷ 52 ∷ 18 ∷ []) 0
-    ≡ Read.Got (Slot 5) (message 5 0 (Invoke 3) 127 long called 305419896) 37
+    ≡ got (Slot 5) (message 5 0 (Invoke 3) 127 long called 305419896) 37
 unfolding message long called read_at frame_at plain_frame plain_of slotted_frame outer_of length_of event_at message_at component_of number_if nature_of count_of size_of values_at le_at if_lt if_le if_eq if_so
 longest_slotted_read = refl
 
 -- "6 if the inner length doesn't fill it": too short; too long, which is not 5; and before 7
-not_filled : (read_at (9 ∷ 0 ∷ 7 ∷ 0 ∷ 5 ∷ 0 ∷ 2 ∷ 0 ∷ 5 ∷ 0 ∷ 99 ∷ []) 0 ≡ Read.Stop 6)
-    × (read_at (8 ∷ 0 ∷ 7 ∷ 0 ∷ 5 ∷ 0 ∷ 3 ∷ 0 ∷ 5 ∷ 0 ∷ 99 ∷ []) 0 ≡ Read.Stop 6)
-    × (read_at (9 ∷ 0 ∷ 7 ∷ 0 ∷ 5 ∷ 0 ∷ 2 ∷ 0 ∷ 8 ∷ 0 ∷ 99 ∷ []) 0 ≡ Read.Stop 6)
+not_filled : (read_at (9 ∷ 0 ∷ 7 ∷ 0 ∷ 5 ∷ 0 ∷ 2 ∷ 0 ∷ 5 ∷ 0 ∷ 99 ∷ []) 0 ≡ stopped BadLength)
+    × (read_at (8 ∷ 0 ∷ 7 ∷ 0 ∷ 5 ∷ 0 ∷ 3 ∷ 0 ∷ 5 ∷ 0 ∷ 99 ∷ []) 0 ≡ stopped BadLength)
+    × (read_at (9 ∷ 0 ∷ 7 ∷ 0 ∷ 5 ∷ 0 ∷ 2 ∷ 0 ∷ 8 ∷ 0 ∷ 99 ∷ []) 0 ≡ stopped BadLength)
 unfolding read_at frame_at plain_frame plain_of slotted_frame outer_of kindless_of length_of event_at time_at size_of values_at le_at if_lt if_le if_eq if_so
 not_filled = (refl, refl, refl)
 
 -- "then 7": none of 1 to 6, and 7 is none of them; "then 6 for the kind": an expiry of three bytes
-inner_kind : (read_at (8 ∷ 0 ∷ 7 ∷ 0 ∷ 5 ∷ 0 ∷ 2 ∷ 0 ∷ 8 ∷ 0 ∷ []) 0 ≡ Read.Stop 7)
-    × (read_at (8 ∷ 0 ∷ 7 ∷ 0 ∷ 5 ∷ 0 ∷ 2 ∷ 0 ∷ 7 ∷ 0 ∷ []) 0 ≡ Read.Stop 7)
-    × (read_at (16 ∷ 0 ∷ 7 ∷ 0 ∷ 5 ∷ 0 ∷ 10 ∷ 0 ∷ 7 ∷ 0 ∷ 5 ∷ 0 ∷ 2 ∷ 0 ∷ 5 ∷ 0 ∷ 0 ∷ 0 ∷ []) 0 ≡ Read.Stop 7)
-    × (read_at (9 ∷ 0 ∷ 7 ∷ 0 ∷ 5 ∷ 0 ∷ 3 ∷ 0 ∷ 5 ∷ 0 ∷ 0 ∷ []) 0 ≡ Read.Stop 6)
+inner_kind : (read_at (8 ∷ 0 ∷ 7 ∷ 0 ∷ 5 ∷ 0 ∷ 2 ∷ 0 ∷ 8 ∷ 0 ∷ []) 0 ≡ stopped UnknownKind)
+    × (read_at (8 ∷ 0 ∷ 7 ∷ 0 ∷ 5 ∷ 0 ∷ 2 ∷ 0 ∷ 7 ∷ 0 ∷ []) 0 ≡ stopped UnknownKind)
+    × (read_at (16 ∷ 0 ∷ 7 ∷ 0 ∷ 5 ∷ 0 ∷ 10 ∷ 0 ∷ 7 ∷ 0 ∷ 5 ∷ 0 ∷ 2 ∷ 0 ∷ 5 ∷ 0 ∷ 0 ∷ 0 ∷ []) 0 ≡ stopped UnknownKind)
+    × (read_at (9 ∷ 0 ∷ 7 ∷ 0 ∷ 5 ∷ 0 ∷ 3 ∷ 0 ∷ 5 ∷ 0 ∷ 0 ∷ []) 0 ≡ stopped BadLength)
 unfolding read_at frame_at plain_frame plain_of slotted_frame outer_of kindless_of length_of event_at time_at size_of values_at le_at if_lt if_le if_eq if_so
 inner_kind = (refl, refl, refl, refl)
 
 -- "its length is 8 to 35": 36 is 6 whatever follows, and so is 7, if its bytes are there
-slotted_lengths : (read_at (36 ∷ 0 ∷ 7 ∷ 0 ∷ []) 0 ≡ Read.Stop 6)
-    × (read_at (36 ∷ 0 ∷ []) 0 ≡ Read.Stop 6)
-    × (read_at (7 ∷ 0 ∷ 7 ∷ 0 ∷ 5 ∷ 0 ∷ 1 ∷ 0 ∷ 5 ∷ []) 0 ≡ Read.Stop 6)
-    × (read_at (7 ∷ 0 ∷ 7 ∷ 0 ∷ 5 ∷ 0 ∷ []) 0 ≡ Read.Stop 5)
+slotted_lengths : (read_at (36 ∷ 0 ∷ 7 ∷ 0 ∷ []) 0 ≡ stopped BadLength)
+    × (read_at (36 ∷ 0 ∷ []) 0 ≡ stopped BadLength)
+    × (read_at (7 ∷ 0 ∷ 7 ∷ 0 ∷ 5 ∷ 0 ∷ 1 ∷ 0 ∷ 5 ∷ []) 0 ≡ stopped BadLength)
+    × (read_at (7 ∷ 0 ∷ 7 ∷ 0 ∷ 5 ∷ 0 ∷ []) 0 ≡ stopped CutShort)
 unfolding read_at frame_at plain_frame plain_of slotted_frame outer_of kindless_of length_of event_at time_at size_of values_at le_at if_lt if_le if_eq if_so
 slotted_lengths = (refl, refl, refl, refl)
 
 -- "30 to 35 with another kind stays 6", an unknown one too, also where bytes lack; "with the kind cut off 5"; kind 7 with bytes lacking is 5
-longer_kinds : (read_at (30 ∷ 0 ∷ 3 ∷ 0 ∷ []) 0 ≡ Read.Stop 6)
-    × (read_at (35 ∷ 0 ∷ 8 ∷ 0 ∷ []) 0 ≡ Read.Stop 6)
-    × (read_at (35 ∷ 0 ∷ 7 ∷ []) 0 ≡ Read.Stop 5)
-    × (read_at (30 ∷ 0 ∷ []) 0 ≡ Read.Stop 5)
-    × (read_at (35 ∷ 0 ∷ 7 ∷ 0 ∷ 5 ∷ 0 ∷ []) 0 ≡ Read.Stop 5)
-    × (read_at (8 ∷ 0 ∷ 7 ∷ 0 ∷ 5 ∷ 0 ∷ 2 ∷ 0 ∷ 5 ∷ []) 0 ≡ Read.Stop 5)
+longer_kinds : (read_at (30 ∷ 0 ∷ 3 ∷ 0 ∷ []) 0 ≡ stopped BadLength)
+    × (read_at (35 ∷ 0 ∷ 8 ∷ 0 ∷ []) 0 ≡ stopped BadLength)
+    × (read_at (35 ∷ 0 ∷ 7 ∷ []) 0 ≡ stopped CutShort)
+    × (read_at (30 ∷ 0 ∷ []) 0 ≡ stopped CutShort)
+    × (read_at (35 ∷ 0 ∷ 7 ∷ 0 ∷ 5 ∷ 0 ∷ []) 0 ≡ stopped CutShort)
+    × (read_at (8 ∷ 0 ∷ 7 ∷ 0 ∷ 5 ∷ 0 ∷ 2 ∷ 0 ∷ 5 ∷ []) 0 ≡ stopped CutShort)
 unfolding read_at frame_at plain_frame plain_of slotted_frame outer_of kindless_of length_of event_at time_at size_of values_at le_at if_lt if_le if_eq if_so
 longer_kinds = (refl, refl, refl, refl, refl, refl)
 
 -- a plain record's refusals stay as they were: a byte of length alone; 1; 29 with bytes lacking; an unknown kind
-plain_lengths : (read_at (6 ∷ []) 0 ≡ Read.Stop 5)
-    × (read_at (1 ∷ 0 ∷ []) 0 ≡ Read.Stop 6)
-    × (read_at (29 ∷ 0 ∷ 3 ∷ 0 ∷ []) 0 ≡ Read.Stop 5)
-    × (read_at (2 ∷ 0 ∷ 8 ∷ 0 ∷ []) 0 ≡ Read.Stop 7)
+plain_lengths : (read_at (6 ∷ []) 0 ≡ stopped CutShort)
+    × (read_at (1 ∷ 0 ∷ []) 0 ≡ stopped BadLength)
+    × (read_at (29 ∷ 0 ∷ 3 ∷ 0 ∷ []) 0 ≡ stopped CutShort)
+    × (read_at (2 ∷ 0 ∷ 8 ∷ 0 ∷ []) 0 ≡ stopped UnknownKind)
 unfolding read_at frame_at plain_frame plain_of slotted_frame outer_of kindless_of length_of event_at time_at size_of values_at le_at if_lt if_le if_eq if_so
 plain_lengths = (refl, refl, refl, refl)
 
 -- where plain records alone are read, 7 is an unknown kind
-slotted_not_plain : plain_at (8 ∷ 0 ∷ 7 ∷ 0 ∷ 5 ∷ 0 ∷ 2 ∷ 0 ∷ 5 ∷ 0 ∷ []) 0 ≡ Read.Stop 7
+slotted_not_plain : plain_at (8 ∷ 0 ∷ 7 ∷ 0 ∷ 5 ∷ 0 ∷ 2 ∷ 0 ∷ 5 ∷ 0 ∷ []) 0 ≡ stopped UnknownKind
 unfolding plain_at plain_frame plain_of length_of le_at if_lt if_le if_eq if_so
 slotted_not_plain = refl
 
 -- just room enough; a byte more, which stays; a byte less: 8, and nothing is written; no room for the six bytes before it
-slotted_written : (written_at 5 Expiry (9 ∷ 9 ∷ 9 ∷ 9 ∷ 9 ∷ 9 ∷ 9 ∷ 9 ∷ 9 ∷ 9 ∷ []) ≡ Whole 10)
+slotted_written : (written_at 5 Expiry (9 ∷ 9 ∷ 9 ∷ 9 ∷ 9 ∷ 9 ∷ 9 ∷ 9 ∷ 9 ∷ 9 ∷ []) ≡ Ok 10)
     × (left_at 5 Expiry (9 ∷ 9 ∷ 9 ∷ 9 ∷ 9 ∷ 9 ∷ 9 ∷ 9 ∷ 9 ∷ 9 ∷ []) ≡ 8 ∷ 0 ∷ 7 ∷ 0 ∷ 5 ∷ 0 ∷ 2 ∷ 0 ∷ 5 ∷ 0 ∷ [])
     × (left_at 5 Expiry (9 ∷ 9 ∷ 9 ∷ 9 ∷ 9 ∷ 9 ∷ 9 ∷ 9 ∷ 9 ∷ 9 ∷ 9 ∷ []) ≡ 8 ∷ 0 ∷ 7 ∷ 0 ∷ 5 ∷ 0 ∷ 2 ∷ 0 ∷ 5 ∷ 0 ∷ 9 ∷ [])
-    × (written_at 5 Expiry (9 ∷ 9 ∷ 9 ∷ 9 ∷ 9 ∷ 9 ∷ 9 ∷ 9 ∷ 9 ∷ []) ≡ NoRoom)
+    × (written_at 5 Expiry (9 ∷ 9 ∷ 9 ∷ 9 ∷ 9 ∷ 9 ∷ 9 ∷ 9 ∷ 9 ∷ []) ≡ Err NoRoom)
     × (left_at 5 Expiry (9 ∷ 9 ∷ 9 ∷ 9 ∷ 9 ∷ 9 ∷ 9 ∷ 9 ∷ 9 ∷ []) ≡ 9 ∷ 9 ∷ 9 ∷ 9 ∷ 9 ∷ 9 ∷ 9 ∷ 9 ∷ 9 ∷ [])
-    × (written_at 5 Expiry (9 ∷ 9 ∷ 9 ∷ 9 ∷ 9 ∷ []) ≡ NoRoom)
+    × (written_at 5 Expiry (9 ∷ 9 ∷ 9 ∷ 9 ∷ 9 ∷ []) ≡ Err NoRoom)
 unfolding written_at left_at slotted_of slot_head record_of head_of bytes_of size_of le_of if_lt if_so
 slotted_written = (refl, refl, refl, refl, refl, refl)
 
 -- 3 comes before 8, with the ordinal in the inner body; no slot of two bytes is refused, since it is the board that says 19
-slotted_refused : (written_at 5 (Time 86401) [] ≡ BadField 1)
-    × (written_at 5 (Opening 0 0 absent) [] ≡ BadField 3)
-    × (written_at 65535 Expiry (9 ∷ 9 ∷ 9 ∷ 9 ∷ 9 ∷ 9 ∷ 9 ∷ 9 ∷ 9 ∷ 9 ∷ []) ≡ Whole 10)
+slotted_refused : (written_at 5 (Time 86401) [] ≡ Err (BadField 1))
+    × (written_at 5 (Opening 0 0 absent) [] ≡ Err (BadField 3))
+    × (written_at 65535 Expiry (9 ∷ 9 ∷ 9 ∷ 9 ∷ 9 ∷ 9 ∷ 9 ∷ 9 ∷ 9 ∷ 9 ∷ []) ≡ Ok 10)
 unfolding written_at slotted_of slot_head record_of head_of bytes_of size_of le_of if_lt if_so
 slotted_refused = (refl, refl, refl)
 

@@ -1,7 +1,8 @@
 // The writer: an event as a whole record at the start of a lent buffer. Its fields are judged first, then the room; where either is bad
 // nothing is stored. Each length stands as a number beside the fields that it counts: the table of fields, which is the reader's too, holds
 // it to them.
-ghost use Rattle.std.specs.Prelude.{◌≡◌, ◌+◌, ◌*◌, ◌%◌, ◌^◌, ◌<◌, ◌≤◌, length};
+ghost use Rattle.std.specs.Prelude.{◌≡◌, ◌+◌, ◌*◌, ◌%◌, ◌^◌, ◌<◌, ◌≤◌, [], length, IfSome};
+ghost use Rattle.text.specs.Choose.{if_so};
 ghost use Rattle.text.specs.Text.{Put};
 ghost use Rattle.rows.specs.Telephone.{same_number};
 ghost use Rattle.rows.specs.declared.Event.TheVariants.{Opening, Ask, Received, FromAccess, Expiry, Time};
@@ -9,14 +10,18 @@ ghost use Rattle.files.specs.Bodies.{count_byte, code_of, item_of, number_values
 ghost use Rattle.files.specs.Bytes.{le_of, part};
 ghost use Rattle.files.specs.Fields.{number_fields, front_fields, carried_fields, bytes_of};
 ghost use Rattle.files.specs.Frames.{length_of};
+ghost use Rattle.files.specs.declared.Unwritten.TheVariants.{BadField, NoRoom};
 ghost use Rattle.files.specs.Write.{written_of, left_of, written_at, left_at, gives_back, slot_gives, slot_leaves, nature_with, number_with, message_with};
 
 use crate::bodies::{component_of, plain_at};
-use crate::frames::{CUT_SHORT, SLOTTED, length_of};
-use crate::{Read, Written};
+use crate::frames::{SLOTTED, length_of};
+use crate::{Unreadable, Unwritten};
 use rows::{Component, Event, Message, Nature, Number};
 
 // ---- The bytes of a number, least first, where there is room for them: no test of each, so that a field is stored at once.
+
+// Kept: these halves become one store of 8 bytes, where a loop over a const parameter takes 15 instructions for it, and `to_le_bytes` with
+// `copy_from_slice` 6 more.
 
 fn put_1(out: &mut [u8], at: usize, v: u8) -> usize
     requires { at + 1 ≤ length out.old }
@@ -63,7 +68,7 @@ pub fn count_byte(nature: Nature, count: u8) -> u8
 {
     match nature {
         Nature::National => count,
-        Nature::International => std::num::wrapping_add_u8(128, count),
+        Nature::International => 128u8.wrapping_add(count),
     }
 }
 
@@ -73,33 +78,28 @@ fn put_number(out: &mut [u8], at: usize, n: Number) -> usize
     ensures put { Put out.old at (bytes_of (number_fields 1) (number_values n)) out.new result }
     ensures value { result ≡ at + 9 }
 {
-    let nature = n.nature;
-    let counted = count_byte(nature, n.count);
-    let to = put_1(out, at, counted);
+    let to = put_1(out, at, count_byte(n.nature, n.count));
     put_8(out, to, n.value)
 }
 
 // One that has no bytes where its part is not there.
-fn put_number_if(out: &mut [u8], at: usize, present: u8, n: Number) -> usize
-    requires { (at + 9 * present ≤ length out.old) × (present < 2) }
-    ensures put { Put out.old at (bytes_of (number_fields present) (number_values n)) out.new result }
-    ensures value { result ≡ at + 9 * present }
+fn put_number_if(out: &mut [u8], at: usize, present: bool, n: Number) -> usize
+    requires { at + if_so present 9 0 ≤ length out.old }
+    ensures put { Put out.old at (if_so present (bytes_of (number_fields 1) (number_values n)) []) out.new result }
+    ensures value { result ≡ at + if_so present 9 0 }
 {
-    if present == 1 {
-        return put_number(out, at, n);
-    }
-    at
+    if present { put_number(out, at, n) } else { at }
 }
 
-fn put_duration_if(out: &mut [u8], at: usize, present: u8, seconds: u32) -> usize
-    requires { (at + 4 * present ≤ length out.old) × (present < 2) }
-    ensures put { Put out.old at (le_of (4 * present) seconds) out.new result }
-    ensures value { result ≡ at + 4 * present }
+fn put_duration_if(out: &mut [u8], at: usize, present: bool, seconds: u32) -> usize
+    requires { at + if_so present 4 0 ≤ length out.old }
+    ensures { Put out.old at (if_so present (le_of 4 seconds) []) out.new result }
 {
-    if present == 1 {
-        return put_4(out, at, seconds as u64);
+    if present {
+        put_4(out, at, seconds as u64)
+    } else {
+        at
     }
-    at
 }
 
 // The numbers and the duration that are present follow one another.
@@ -107,12 +107,9 @@ fn put_carried(out: &mut [u8], at: usize, m: Message) -> usize
     requires { at + 9 * part m.parts 16 + 9 * part m.parts 32 + 4 * part m.parts 64 ≤ length out.old }
     ensures { Put out.old at (bytes_of (carried_fields m.parts) (carried_values m)) out.new result }
 {
-    let calling = m.calling;
-    let called = m.called;
-    let parts = m.parts;
-    let mut to = put_number_if(out, at, parts / 16 % 2, calling);
-    to = put_number_if(out, to, parts / 32 % 2, called);
-    put_duration_if(out, to, parts / 64 % 2, m.duration)
+    let mut to = put_number_if(out, at, m.parts / 16 % 2 == 1, m.calling);
+    to = put_number_if(out, to, m.parts / 32 % 2 == 1, m.called);
+    put_duration_if(out, to, m.parts / 64 % 2 == 1, m.duration)
 }
 
 pub fn code_of(component: Component) -> u8
@@ -132,12 +129,12 @@ pub fn item_of(component: Component) -> u8
     ensures { result ≡ item_of component }
 {
     match component {
-        Component::Absent(n) => n,
-        Component::Invoke(n) => n,
-        Component::Result(n) => n,
-        Component::Error(n) => n,
-        Component::Reject(n) => n,
-        Component::Unknown(_, n) => n,
+        Component::Absent(n)
+        | Component::Invoke(n)
+        | Component::Result(n)
+        | Component::Error(n)
+        | Component::Reject(n)
+        | Component::Unknown(_, n) => n,
     }
 }
 
@@ -178,13 +175,10 @@ fn put_front(out: &mut [u8], at: usize, m: Message) -> usize
     ensures put { Put out.old at (bytes_of front_fields (front_values m)) out.new result }
     ensures value { result ≡ at + 5 }
 {
-    let component = m.component;
-    let code = code_of(component);
-    let item = item_of(component);
     let mut to = put_1(out, at, m.kind);
     to = put_1(out, to, m.cause);
-    to = put_1(out, to, code);
-    to = put_1(out, to, item);
+    to = put_1(out, to, code_of(m.component));
+    to = put_1(out, to, item_of(m.component));
     put_1(out, to, m.parts)
 }
 
@@ -231,87 +225,68 @@ fn put_time(out: &mut [u8], seconds: u32) -> usize
 
 // ---- Each kind: 3, then 8, then the record
 
-fn write_opening(role: u8, flags: u8, own: Number, out: &mut [u8]) -> Written
+// What refuses an event: the field of it that is bad; or a record longer than the room.
+fn judge(bad: Option<u8>, size: usize, room: usize) -> Result<(), Unwritten>
+    ensures field { IfSome bad (λ k. result ≡ Err (BadField k)) }
+    ensures narrow { bad ≡ None → room < size → result ≡ Err NoRoom }
+    ensures good { bad ≡ None → size ≤ room → result ≡ Ok tt }
+{
+    match bad {
+        Some(field) => Err(Unwritten::BadField(field)),
+        None if room < size => Err(Unwritten::NoRoom),
+        None => Ok(()),
+    }
+}
+
+fn write_opening(role: u8, flags: u8, own: Number, out: &mut [u8]) -> Result<usize, Unwritten>
     ensures { (result ≡ written_of (Opening role flags own) out.old)
         × (out.new ≡ left_of (Opening role flags own) out.old) }
 {
-    match rows::opening_bad(role, flags, own) {
-        Some(field) => Written::BadField(field),
-        None => if out.len() < 15 {
-            Written::NoRoom
-        } else {
-            Written::Whole(put_opening(out, role, flags, own))
-        },
-    }
+    judge(rows::opening_bad(role, flags, own), 15, out.len())?;
+    Ok(put_opening(out, role, flags, own))
 }
 
-fn write_ask(item: u8, called: Number, out: &mut [u8]) -> Written
+fn write_ask(item: u8, called: Number, out: &mut [u8]) -> Result<usize, Unwritten>
     ensures { (result ≡ written_of (Ask item called) out.old)
         × (out.new ≡ left_of (Ask item called) out.old) }
 {
-    match rows::ask_bad(item, called) {
-        Some(field) => Written::BadField(field),
-        None => if out.len() < 14 {
-            Written::NoRoom
-        } else {
-            Written::Whole(put_ask(out, item, called))
-        },
-    }
+    judge(rows::ask_bad(item, called), 14, out.len())?;
+    Ok(put_ask(out, item, called))
 }
 
-fn write_message(m: Message, out: &mut [u8]) -> Written
+fn write_message(m: Message, out: &mut [u8]) -> Result<usize, Unwritten>
     ensures { (result ≡ written_of (Received m) out.old) × (out.new ≡ left_of (Received m) out.old) }
 {
-    match rows::message_bad(m) {
-        Some(field) => Written::BadField(field),
-        None => if out.len() < message_size(m.parts) {
-            Written::NoRoom
-        } else {
-            Written::Whole(put_message(out, m))
-        },
-    }
+    judge(rows::message_bad(m), message_size(m.parts), out.len())?;
+    Ok(put_message(out, m))
 }
 
-fn write_access(item: u8, error: u8, out: &mut [u8]) -> Written
+fn write_access(item: u8, error: u8, out: &mut [u8]) -> Result<usize, Unwritten>
     ensures { (result ≡ written_of (FromAccess item error) out.old)
         × (out.new ≡ left_of (FromAccess item error) out.old) }
 {
-    match rows::access_bad(item, error) {
-        Some(field) => Written::BadField(field),
-        None => if out.len() < 6 {
-            Written::NoRoom
-        } else {
-            Written::Whole(put_access(out, item, error))
-        },
-    }
+    judge(rows::access_bad(item, error), 6, out.len())?;
+    Ok(put_access(out, item, error))
 }
 
-fn write_expiry(out: &mut [u8]) -> Written
+fn write_expiry(out: &mut [u8]) -> Result<usize, Unwritten>
     ensures { (result ≡ written_of Expiry out.old) × (out.new ≡ left_of Expiry out.old) }
 {
-    if out.len() < 4 {
-        return Written::NoRoom;
-    }
-    Written::Whole(put_expiry(out))
+    judge(None, 4, out.len())?;
+    Ok(put_expiry(out))
 }
 
-fn write_time(seconds: u32, out: &mut [u8]) -> Written
+fn write_time(seconds: u32, out: &mut [u8]) -> Result<usize, Unwritten>
     ensures { (result ≡ written_of (Time seconds) out.old) × (out.new ≡ left_of (Time seconds) out.old) }
 {
-    match rows::time_bad(seconds) {
-        Some(field) => Written::BadField(field),
-        None => if out.len() < 8 {
-            Written::NoRoom
-        } else {
-            Written::Whole(put_time(out, seconds))
-        },
-    }
+    judge(rows::time_bad(seconds), 8, out.len())?;
+    Ok(put_time(out, seconds))
 }
 
 // ---- For hosts
 
 // Any event.
-pub fn write_event(e: Event, out: &mut [u8]) -> Written
+pub fn write_event(e: Event, out: &mut [u8]) -> Result<usize, Unwritten>
     ensures { (result ≡ written_of e out.old) × (out.new ≡ left_of e out.old) }
 {
     match e {
@@ -335,30 +310,25 @@ fn put_slot_head(out: &mut [u8], inner: usize, slot: u16) -> usize
 }
 
 // Any event at a slot: a record of kind 7. The record inside is written first, where it will stand, so that it is judged once.
-pub fn write_at_slot(slot: u16, e: Event, out: &mut [u8]) -> Written
+pub fn write_at_slot(slot: u16, e: Event, out: &mut [u8]) -> Result<usize, Unwritten>
     ensures { (result ≡ written_at slot e out.old) × (out.new ≡ left_at slot e out.old) }
 {
     if out.len() < 6 {
         return write_event(e, &mut out[..0]);
     }
-    match write_event(e, &mut out[6..]) {
-        Written::Whole(n) => {
-            put_slot_head(out, n, slot);
-            Written::Whole(n + 6)
-        }
-        Written::BadField(field) => Written::BadField(field),
-        Written::NoRoom => Written::NoRoom,
-    }
+    let n = write_event(e, &mut out[6..])?;
+    put_slot_head(out, n, slot);
+    Ok(n + 6)
 }
 
 // An answer as a host in C is given it: 0, 8, or 3 with the field's ordinal above it.
-fn gives_back(w: Written) -> u32
-    ensures { result ≡ gives_back w }
+fn gives_back(answer: Result<usize, Unwritten>) -> u32
+    ensures { result ≡ gives_back answer }
 {
-    match w {
-        Written::Whole(_) => 0,
-        Written::BadField(field) => 3 + 256 * field as u32,
-        Written::NoRoom => 8,
+    match answer {
+        Ok(_) => 0,
+        Err(Unwritten::BadField(field)) => 3 + 256 * field as u32,
+        Err(Unwritten::NoRoom) => 8,
     }
 }
 
@@ -367,17 +337,17 @@ fn nature_with(international: bool) -> Nature
     ensures { result ≡ nature_with international }
 {
     if international {
-        return Nature::International;
+        Nature::International
+    } else {
+        Nature::National
     }
-    Nature::National
 }
 
 fn number_with(international: bool, count: u8, value: u64) -> Number
     ensures { result ≡ number_with international count value }
 {
-    let nature = nature_with(international);
     Number {
-        nature,
+        nature: nature_with(international),
         count,
         value,
     }
@@ -439,16 +409,13 @@ pub fn rev_write_message(
         (number_with calledinternational calledcount calledvalue) duration)
         out.old) }
 {
-    let calling = number_with(callinginternational, callingcount, callingvalue);
-    let called = number_with(calledinternational, calledcount, calledvalue);
-    let component = component_of(component, item);
     let m = Message {
         kind: message,
         cause,
-        component,
+        component: component_of(component, item),
         parts,
-        calling,
-        called,
+        calling: number_with(callinginternational, callingcount, callingvalue),
+        called: number_with(calledinternational, calledcount, calledvalue),
         duration,
     };
     gives_back(write_message(m, out))
@@ -480,9 +447,9 @@ pub fn rev_write_slot(slot: u16, inner: &[u8], out: &mut [u8]) -> u32
         × (out.new ≡ slot_leaves (plain_at inner.now 0) slot out.old) }
 {
     match plain_at(inner, 0) {
-        Read::End => CUT_SHORT as u32,
-        Read::Stop(number) => number as u32,
-        Read::Got(_, e, _) => gives_back(write_at_slot(slot, e, out)),
+        None => u32::from(Unreadable::CutShort.number()),
+        Some(Err(stop)) => u32::from(stop.number()),
+        Some(Ok(record)) => gives_back(write_at_slot(slot, record.event, out)),
     }
 }
 
