@@ -80,7 +80,11 @@ fn number_if(s: &[u8], i: usize, present: bool) -> (Number, usize)
     ensures number { result.0 ≡ number_if s.now i (from_bool present) }
     ensures place { result.1 ≡ i + 9 * from_bool present }
 {
-    if present { (number_at(s, i), i + 9) } else { (ABSENT, i) }
+    if present {
+        (number_at(s, i), i + 9)
+    } else {
+        (ABSENT, i)
+    }
 }
 
 #[tactic(auto, using(crate::proofs::Records::duration_there, crate::proofs::Records::duration_none))]
