@@ -1,7 +1,12 @@
 -- What a reader's calls gave is what its definition reads; and where a record ends.
 -- Assumes nothing.
-use Rattle.std.proofs.Common.{◌≡◌, ℕ, zero, suc, ◌+◌, ◌*◌, ◌<◌, ◌≤◌, List, [], ◌∷◌, ◌++◌, length, sym, refl, ap, ◌∙◌, add_assoc, arith}
-use lib.ListN.{get_or-eq_default}
+use Rattle.std.proofs.Common.{◌≡◌, ℕ, zero, suc, ◌+◌, ◌*◌, ◌<◌, ◌≤◌, Bool, true, false, eqb, List, [], ◌∷◌, ◌++◌, length, sym, refl, ap, ◌∙◌, add_assoc, arith}
+use Rattle.std.specs.Int.{from_bool, from_le_bytes}
+use Rattle.std.specs.Prelude.{slice_index, slice_range, EachIndex}
+use Rattle.std.proofs.Common.{take}
+use Rattle.std.proofs.lemmas.Grind.{common_steps}
+use mir.Syntax.{w16, w32, w64}
+use Rattle.std.proofs.Common.{get_or, add-zero}
 use Rattle.rows.specs.Telephone.{absent}
 use Rattle.rows.specs.declared.Component.{Component}
 use Rattle.rows.specs.declared.Event.{Event}
@@ -23,19 +28,44 @@ use Rattle.std.specs.Prelude.{None, Some, Result as OkOrErr, Ok, Err}
 use Rattle.files.specs.declared.Unreadable.{Unreadable}
 use Rattle.files.specs.declared.Unreadable.TheVariants.{CutShort, BadLength, UnknownKind}
 
-pub past_end : (s : List ℕ) (i : ℕ) → length s ≤ i → 0 ≡ byte_at s i
-past_end s i h = sym (get_or-eq_default s 0 h)
+-- ---- a number by its bytes
 
--- ---- a number by its halves
+pub field_there : (s rest field : List ℕ) (i w : ℕ) → rest ≡ slice_range s i (length s) → field ≡ take w rest → (k : ℕ) → k < length field
+    → slice_index field k ≡ byte_at s (i + k)
+field_there s rest field i w e f k h = grind (arith, common_steps)
 
-pub le_four : (s : List ℕ) (i a b : ℕ) → a ≡ le_at 2 s i → b ≡ le_at 2 s (i + 2) → a + 65536 * b ≡ le_at 4 s i
-unfolding le_at
-le_four s i a b e f = simp (e, f, add_assoc) (omega arith)
+module _ (s : List ℕ) (i : ℕ) (bytes : List ℕ) where
+  field_byte : (w k : ℕ) → length bytes ≡ w → EachIndex bytes (λ k. slice_index bytes k ≡ byte_at s (i + k)) → k < w → get_or bytes k 0 ≡ byte_at s (i + k)
+  field_byte w k l e h = e k (omega arith)
 
--- x, y: the halves as numbers of 64 bits
-pub le_eight : (s : List ℕ) (i a b x y : ℕ) → a ≡ le_at 4 s i → b ≡ le_at 4 s (i + 4) → x ≡ a → y ≡ b → x + 4294967296 * y ≡ le_at 8 s i
-unfolding le_at
-le_eight s i a b x y e f g h = simp (g, h, e, f, add_assoc) (omega arith)
+  pub field_two : length bytes ≡ 2 → EachIndex bytes (λ k. slice_index bytes k ≡ byte_at s (i + k)) → from_le_bytes w16 bytes ≡ le_at 2 s i
+  unfolding le_at
+  field_two l e =
+      let a = field_byte 2 0 l e (omega arith) in
+      let b = field_byte 2 1 l e (omega arith) in
+      simp (a, b, add-zero) (omega arith)
+
+  pub field_four : length bytes ≡ 4 → EachIndex bytes (λ k. slice_index bytes k ≡ byte_at s (i + k)) → from_le_bytes w32 bytes ≡ le_at 4 s i
+  unfolding le_at
+  field_four l e =
+      let a = field_byte 4 0 l e (omega arith) in
+      let b = field_byte 4 1 l e (omega arith) in
+      let c = field_byte 4 2 l e (omega arith) in
+      let d = field_byte 4 3 l e (omega arith) in
+      simp (a, b, c, d, add-zero, add_assoc) (omega arith)
+
+  pub field_eight : length bytes ≡ 8 → EachIndex bytes (λ k. slice_index bytes k ≡ byte_at s (i + k)) → from_le_bytes w64 bytes ≡ le_at 8 s i
+  unfolding le_at
+  field_eight l e =
+      let a = field_byte 8 0 l e (omega arith) in
+      let b = field_byte 8 1 l e (omega arith) in
+      let c = field_byte 8 2 l e (omega arith) in
+      let d = field_byte 8 3 l e (omega arith) in
+      let f = field_byte 8 4 l e (omega arith) in
+      let g = field_byte 8 5 l e (omega arith) in
+      let h = field_byte 8 6 l e (omega arith) in
+      let j = field_byte 8 7 l e (omega arith) in
+      simp (a, b, c, d, f, g, h, j, add-zero, add_assoc) (omega arith)
 
 -- ---- a body's fields, as they stand one after another
 
@@ -50,12 +80,21 @@ unfolding number_if values_at
 number_as s i byte count value nature e f g h = rw (h, g, f, e, le_one s i)
 
 -- present or not: a field of no bytes is 0
-pub number_there_lem : (s : List ℕ) (i present : ℕ) (n : Number) → present ≡ 1 → n ≡ number_if s i 1 → n ≡ number_if s i present
-number_there_lem s i present n e f = f ∙ ap (number_if s i) (sym e)
+pub number_there : (s : List ℕ) (i : ℕ) (present : Bool) (n : Number) → present ≡ true → n ≡ number_if s i 1 → n ≡ number_if s i (from_bool present)
+number_there s i present n e f = f ∙ ap (λ (b : Bool). number_if s i (from_bool b)) (sym e)
 
 no_bytes : (s : List ℕ) (i : ℕ) → (absent ≡ number_if s i 0) × (0 ≡ le_at 0 s i)
 unfolding number_if nature_of count_of if_lt if_so values_at le_at
 no_bytes s i = (refl, refl)
+
+pub number_none : (s : List ℕ) (i : ℕ) (present : Bool) → present ≡ false → absent ≡ number_if s i (from_bool present)
+number_none s i present e = (no_bytes s i).0 ∙ ap (λ (b : Bool). number_if s i (from_bool b)) (sym e)
+
+pub duration_there : (s : List ℕ) (i n : ℕ) (present : Bool) → present ≡ true → n ≡ le_at 4 s i → n ≡ le_at (4 * from_bool present) s i
+duration_there s i n present e f = f ∙ ap (λ (b : Bool). le_at (4 * from_bool b) s i) (sym e)
+
+pub duration_none : (s : List ℕ) (i : ℕ) (present : Bool) → present ≡ false → 0 ≡ le_at (4 * from_bool present) s i
+duration_none s i present e = (no_bytes s i).1 ∙ ap (λ (b : Bool). le_at (4 * from_bool b) s i) (sym e)
 
 -- what is neither of two is the other
 pub not_one : (present : ℕ) → present < 2 → (present ≡ 1 → ⊥) → 0 ≡ present
@@ -63,14 +102,14 @@ not_one zero g h = refl
 not_one (suc zero) g h = absurd (h refl)
 not_one (suc (suc k)) g h = absurd (omega arith)
 
-pub number_none : (s : List ℕ) (i present : ℕ) → present < 2 → (present ≡ 1 → ⊥) → absent ≡ number_if s i present
-number_none s i present g h = (no_bytes s i).0 ∙ ap (number_if s i) (not_one present g h)
+-- a part is present where its bit is 1
+bit_is : (n : ℕ) → n < 2 → from_bool (eqb n 1) ≡ n
+bit_is zero h = refl
+bit_is (suc zero) h = refl
+bit_is (suc (suc k)) h = absurd (omega arith)
 
-pub duration_there : (s : List ℕ) (i present n : ℕ) → present ≡ 1 → n ≡ le_at 4 s i → n ≡ le_at (4 * present) s i
-duration_there s i present n e f = f ∙ ap (λ (k : ℕ). le_at (4 * k) s i) (sym e)
-
-pub duration_none : (s : List ℕ) (i present : ℕ) → present < 2 → (present ≡ 1 → ⊥) → 0 ≡ le_at (4 * present) s i
-duration_none s i present g h = (no_bytes s i).1 ∙ ap (λ (k : ℕ). le_at (4 * k) s i) (not_one present g h)
+part_is : (parts weight : ℕ) → from_bool (eqb (part parts weight) 1) ≡ part parts weight
+part_is parts weight = bit_is (part parts weight) (omega arith)
 
 pub opening_as : (s : List ℕ) (b role flags : ℕ) (own : Number) → role ≡ byte_at s b → flags ≡ byte_at s (b + 1) → own ≡ number_if s (b + 2) 1
     → Opening role flags own ≡ opening_at s b
@@ -109,16 +148,18 @@ fronted s b ws =
     let k : b + 4 + 1 ≡ b + 5 = omega arith in
     rw (f, g, h, k, le_one s b, le_one s (b + 1), le_one s (b + 2), le_one s (b + 3), le_one s (b + 4))
 
-pub message_as : (s : List ℕ) (b kind cause code n parts duration : ℕ) (component : Component) (calling called : Number)
+pub message_as : (s : List ℕ) (b kind cause code n parts i j duration : ℕ) (component : Component) (calling called : Number)
     → kind ≡ byte_at s b → cause ≡ byte_at s (b + 1) → code ≡ byte_at s (b + 2) → n ≡ byte_at s (b + 3) → component ≡ component_of code n
     → parts ≡ byte_at s (b + 4)
-    → calling ≡ number_if s (b + 5) (part parts 16)
-    → called ≡ number_if s (b + 5 + 9 * part parts 16) (part parts 32)
-    → duration ≡ le_at (4 * part parts 64) s (b + 5 + 9 * part parts 16 + 9 * part parts 32)
+    → calling ≡ number_if s (b + 5) (from_bool (eqb (part parts 16) 1))
+    → i ≡ b + 5 + 9 * from_bool (eqb (part parts 16) 1)
+    → called ≡ number_if s i (from_bool (eqb (part parts 32) 1))
+    → j ≡ i + 9 * from_bool (eqb (part parts 32) 1)
+    → duration ≡ le_at (4 * from_bool (eqb (part parts 64) 1)) s j
     → record { kind = kind; cause = cause; component = component; parts = parts; calling = calling; called = called; duration = duration } ≡ message_at s b
 unfolding message_at number_if values_at
-message_as s b kind cause code n parts duration component calling called e f g h i j k l m =
-    rw (m, l, k, i, h, g, f, e, j)
+message_as s b kind cause code n parts x y duration component calling called e f g h i j k u l v m =
+    rw (m, v, l, u, k, part_is parts 16, part_is parts 32, part_is parts 64, i, h, g, f, e, j)
     (sym (ap message_from (fronted s b (carried_fields (byte_at s (b + 4)))
     ∙ ap (λ (vs : List ℕ). byte_at s b ∷ byte_at s (b + 1) ∷ byte_at s (b + 2) ∷ byte_at s (b + 3) ∷ byte_at s (b + 4) ∷ vs)
     (carried s (b + 5) (part (byte_at s (b + 4)) 16) (part (byte_at s (b + 4)) 32) (part (byte_at s (b + 4)) 64)))))

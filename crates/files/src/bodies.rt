@@ -3,6 +3,7 @@ ghost use Rattle.std.specs.Prelude.{◌≡◌, ◌+◌, ◌*◌, ◌^◌, ◌<�
 ghost use Rattle.files.specs.Bodies.{nature_of, count_of, number_if, opening_at, ask_at, component_of, message_at, access_at, time_at, event_at};
 ghost use Rattle.files.specs.Bodies.{body_at, read_by, read_at, plain_at};
 ghost use Rattle.files.specs.Bytes.{le_at};
+ghost use Rattle.std.specs.Int.{from_bool};
 
 use crate::bytes::{byte, le4, le8};
 use crate::frames::{frame, plain_frame};
@@ -72,25 +73,26 @@ pub fn component_of(code: u8, n: u8) -> Component
     }
 }
 
-// A number where its part is present, else absent.
-#[tactic(auto, using(crate::proofs::Records::number_there_lem, crate::proofs::Records::number_none))]
-fn number_if(s: &[u8], i: usize, present: u8) -> Number
-    requires { (i + 8 < 2 ^ 64) × (present < 2) }
-    ensures { result ≡ number_if s.now i present }
+// A number where its part is present, else absent; and the place after it.
+#[tactic(auto, using(crate::proofs::Records::number_there, crate::proofs::Records::number_none))]
+fn number_if(s: &[u8], i: usize, present: bool) -> (Number, usize)
+    requires { i + 9 < 2 ^ 64 }
+    ensures number { result.0 ≡ number_if s.now i (from_bool present) }
+    ensures place { result.1 ≡ i + 9 * from_bool present }
 {
-    if present == 1 {
-        number_at(s, i)
+    if present {
+        (number_at(s, i), i + 9)
     } else {
-        ABSENT
+        (ABSENT, i)
     }
 }
 
 #[tactic(auto, using(crate::proofs::Records::duration_there, crate::proofs::Records::duration_none))]
-fn duration_if(s: &[u8], i: usize, present: u8) -> u32
-    requires { (i + 3 < 2 ^ 64) × (present < 2) }
-    ensures { result ≡ le_at (4 * present) s.now i }
+fn duration_if(s: &[u8], i: usize, present: bool) -> u32
+    requires { i + 3 < 2 ^ 64 }
+    ensures { result ≡ le_at (4 * from_bool present) s.now i }
 {
-    if present == 1 { le4(s, i) } else { 0 }
+    if present { le4(s, i) } else { 0 }
 }
 
 // The numbers and the duration that are present follow one another.
@@ -99,26 +101,17 @@ fn message_at(s: &[u8], b: usize) -> Message
     requires { b + 64 < 2 ^ 64 }
     ensures { result ≡ message_at s.now b }
 {
-    let kind = byte(s, b);
-    let cause = byte(s, b + 1);
-    let code = byte(s, b + 2);
-    let n = byte(s, b + 3);
-    let component = component_of(code, n);
     let parts = byte(s, b + 4);
-    let i = b + 5;
-    let j = i + 9 * (parts / 16 % 2) as usize;
-    let k = j + 9 * (parts / 32 % 2) as usize;
-    let calling = number_if(s, i, parts / 16 % 2);
-    let called = number_if(s, j, parts / 32 % 2);
-    let duration = duration_if(s, k, parts / 64 % 2);
+    let (calling, i) = number_if(s, b + 5, parts / 16 % 2 == 1);
+    let (called, i) = number_if(s, i, parts / 32 % 2 == 1);
     Message {
-        kind,
-        cause,
-        component,
+        kind: byte(s, b),
+        cause: byte(s, b + 1),
+        component: component_of(byte(s, b + 2), byte(s, b + 3)),
         parts,
         calling,
         called,
-        duration,
+        duration: duration_if(s, i, parts / 64 % 2 == 1),
     }
 }
 
