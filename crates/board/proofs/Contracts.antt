@@ -15,8 +15,8 @@ use prog.Memory.{Memory}
 use prog.Routine.{Routine}
 use Rattle.board.specs.Row.{no_slot, free_number, free_slot}
 use Rattle.board.proofs.Same.{Stepped, Asked}
-use Rattle.board.specs.contracts.Free.number as number
-use Rattle.board.specs.contracts.Free.slot as slot
+use Rattle.board.specs.contracts.free_number as number
+use Rattle.board.specs.contracts.free_slot as slot
 use Rattle.board.specs.contracts.lowest_free as lowest-free
 use Rattle.board.specs.contracts.no_slot as no_slot
 use Rattle.board.specs.contracts.step_slot as step-slot

@@ -10,6 +10,7 @@ use native.Mathlib.Nat.{not-suc-le-zero, le_of_suc-le-suc, zero-add}
 use native.Mathlib.Omega.{arith}
 use lib.Dec.{eqb}
 use lib.ListN.{length, get_elem?, set, replicate, length-set, length-replicate}
+use Rattle.std.specs.Prelude.{Option, Some, None}
 use Rattle.rows.specs.Bill.{pick}
 use Rattle.rows.specs.Step.{unopened_call, free_of}
 use Rattle.rows.specs.Valid.{event_ok}
@@ -22,17 +23,15 @@ use Rattle.rows.proofs.Truth.{differ}
 use Rattle.board.specs.Numbers.{slots}
 use Rattle.board.specs.Promises.{FreeAt, LowestAt, NoneFree, Matters, call_in_use, all_in_use, freed_at}
 use Rattle.board.specs.Row.{answer_at, free_number, free_from, lowest_free}
-use Rattle.board.specs.declared.Free.{Free}
-use Rattle.board.specs.declared.Free.TheVariants.{At, Nowhere}
 use Rattle.board.proofs.Laws.{some_is, none_is_not, answer_is}
 
-abbrev found : Free → Bool
-found (At i) = true
-found Nowhere = false
+abbrev found : Option ℕ → Bool
+found (Some i) = true
+found None = false
 
-abbrev which : Free → ℕ
-which (At i) = i
-which Nowhere = 0
+abbrev which : Option ℕ → ℕ
+which (Some i) = i
+which None = 0
 
 -- the slot in front is in use
 free_head : {X : Type 0} (c : Call) (cs : List Call) → free_of c ≡ false → FreeAt (c ∷ cs) 0 → X
@@ -40,20 +39,20 @@ free_head c cs x f = differ (sym x ∙ ap free_of (some_is f.there) ∙ f.free)
 
 -- ---- Refused exactly where none is free
 
-none_free : (k i : ℕ) (cs : List Call) → free_from k i cs ≡ Nowhere → (j : ℕ) → j < k → FreeAt cs j → ⊥
+none_free : (k i : ℕ) (cs : List Call) → free_from k i cs ≡ None → (j : ℕ) → j < k → FreeAt cs j → ⊥
 none_free zero i cs e j h f = not-suc-le-zero h
 none_free (suc k) i [] e j h f = none_is_not f.there
 none_free (suc k) i (c ∷ cs) e j h f = go (free_of c) refl (none_free k (suc i) cs) e j h f
   where
-    go : (b : Bool) → free_of c ≡ b → (free_from k (suc i) cs ≡ Nowhere → (j : ℕ) → j < k → FreeAt cs j → ⊥) →
-        pick b (At i) (free_from k (suc i) cs) ≡ Nowhere → (j : ℕ) → j < suc k → FreeAt (c ∷ cs) j → ⊥
+    go : (b : Bool) → free_of c ≡ b → (free_from k (suc i) cs ≡ None → (j : ℕ) → j < k → FreeAt cs j → ⊥) →
+        pick b (Some i) (free_from k (suc i) cs) ≡ None → (j : ℕ) → j < suc k → FreeAt (c ∷ cs) j → ⊥
     go true x r e j h f = differ (sym (ap found e))
     go false x r e zero h f = free_head c cs x f
     go false x r e (suc j) h f = r e j (le_of_suc-le-suc h) (record { call = f.call; there = f.there; free = f.free })
 
-number_nowhere : (f : Free) → free_number f ≡ 21 → f ≡ Nowhere
-number_nowhere (At i) e = differ (ap (λ (n : ℕ). eqb n 21) e)
-number_nowhere Nowhere e = refl
+number_nowhere : (f : Option ℕ) → free_number f ≡ 21 → f ≡ None
+number_nowhere (Some i) e = differ (ap (λ (n : ℕ). eqb n 21) e)
+number_nowhere None e = refl
 
 -- ---- The lowest
 
@@ -65,7 +64,7 @@ pub record First (k i : ℕ) (cs : List Call) (m : ℕ) : Type 0 where
   pub free : FreeAt cs place
   pub lowest : (j : ℕ) → j < place → FreeAt cs j → ⊥
 
-first_free : (k i : ℕ) (cs : List Call) (m : ℕ) → free_from k i cs ≡ At m → First k i cs m
+first_free : (k i : ℕ) (cs : List Call) (m : ℕ) → free_from k i cs ≡ Some m → First k i cs m
 first_free zero i cs m e = differ (ap found e)
 first_free (suc k) i [] m e = differ (ap found e)
 first_free (suc k) i (c ∷ cs) m e = go (free_of c) refl (first_free k (suc i) cs m) e
@@ -84,8 +83,8 @@ first_free (suc k) i (c ∷ cs) m e = go (free_of c) refl (first_free k (suc i) 
           lowest = before x r.place r.lowest;
         }
 
-    go : (b : Bool) → free_of c ≡ b → (free_from k (suc i) cs ≡ At m → First k (suc i) cs m) →
-        pick b (At i) (free_from k (suc i) cs) ≡ At m → First (suc k) i (c ∷ cs) m
+    go : (b : Bool) → free_of c ≡ b → (free_from k (suc i) cs ≡ Some m → First k (suc i) cs m) →
+        pick b (Some i) (free_from k (suc i) cs) ≡ Some m → First (suc k) i (c ∷ cs) m
     go true x r e =
         record {
           place = 0;
@@ -96,7 +95,7 @@ first_free (suc k) i (c ∷ cs) m e = go (free_of c) refl (first_free k (suc i) 
         }
     go false x r e = later x (r e)
 
-pub lowest_at : (cs : List Call) (i : ℕ) → lowest_free cs ≡ At i → LowestAt cs i
+pub lowest_at : (cs : List Call) (i : ℕ) → lowest_free cs ≡ Some i → LowestAt cs i
 lowest_at cs i e = by (first_free slots 0 cs i e)
   where
     by : First slots 0 cs i → LowestAt cs i
@@ -105,9 +104,9 @@ lowest_at cs i e = by (first_free slots 0 cs i e)
 -- ---- Both directions
 
 -- an answer is a slot or none
-by_answer : {X : Type 0} (f : Free) → (f ≡ Nowhere → X) → ((m : ℕ) → f ≡ At m → X) → X
-by_answer (At m) n s = s m refl
-by_answer Nowhere n s = n refl
+by_answer : {X : Type 0} (f : Option ℕ) → (f ≡ None → X) → ((m : ℕ) → f ≡ Some m → X) → X
+by_answer (Some m) n s = s m refl
+by_answer None n s = n refl
 
 pub nowhere_exactly : (cs : List Call) → (free_number (lowest_free cs) ≡ 21) ↔ NoneFree cs
 nowhere_exactly cs = (
@@ -125,10 +124,10 @@ one_lowest cs i m a b = omega (arith, not-below, not-above)
     not-above : i < m → ⊥
     not-above h = b.lowest i h a.free
 
-pub lowest_exactly : (cs : List Call) (i : ℕ) → (lowest_free cs ≡ At i) ↔ LowestAt cs i
+pub lowest_exactly : (cs : List Call) (i : ℕ) → (lowest_free cs ≡ Some i) ↔ LowestAt cs i
 lowest_exactly cs i = (
   lowest_at cs i,
-  λ l. by_answer (lowest_free cs) (λ e. absurd (none_free slots 0 cs e i l.slot l.free)) (λ m e. e ∙ ap At (one_lowest cs i m l (lowest_at cs m e))),
+  λ l. by_answer (lowest_free cs) (λ e. absurd (none_free slots 0 cs e i l.slot l.free)) (λ m e. e ∙ ap Some (one_lowest cs i m l (lowest_at cs m e))),
 )
 
 -- ---- Every slot is asked
@@ -147,8 +146,8 @@ module _ {A : Type 0} where
   set_other (y ∷ ys) (suc i) (suc j) x n = set_other ys i j x (λ e. n (ap suc e))
 
 -- where none is free, a slot that is freed is the one found
-pub freed_found : (cs : List Call) (i : ℕ) (c : Call) → lowest_free cs ≡ Nowhere → i < slots → i < length cs → free_of c ≡ true →
-    lowest_free (set cs i c) ≡ At i
+pub freed_found : (cs : List Call) (i : ℕ) (c : Call) → lowest_free cs ≡ None → i < slots → i < length cs → free_of c ≡ true →
+    lowest_free (set cs i c) ≡ Some i
 freed_found cs i c e s l f =
     (lowest_exactly (set cs i c) i).1
     (record {
@@ -164,13 +163,13 @@ freed_found cs i c e s l f =
     apart : (j : ℕ) → j < i → i ≡ j → ⊥
     apart j h k = omega (arith, h, k)
 
-none_of_these : (k i n : ℕ) (c : Call) → free_of c ≡ false → free_from k i (replicate n c) ≡ Nowhere
+none_of_these : (k i n : ℕ) (c : Call) → free_of c ≡ false → free_from k i (replicate n c) ≡ None
 none_of_these zero i n c x = refl
 none_of_these (suc k) i zero c x = refl
 none_of_these (suc k) i (suc n) c x =
-    ap (λ (b : Bool). pick b (At i) (free_from k (suc i) (replicate n c))) x ∙ none_of_these k (suc i) n c x
+    ap (λ (b : Bool). pick b (Some i) (free_from k (suc i) (replicate n c))) x ∙ none_of_these k (suc i) n c x
 
-all_in_use_lem : lowest_free all_in_use ≡ Nowhere
+all_in_use_lem : lowest_free all_in_use ≡ None
 unfolding all_in_use
 all_in_use_lem = none_of_these slots 0 slots call_in_use refl
 
@@ -178,10 +177,10 @@ in_use_length : length all_in_use ≡ slots
 unfolding all_in_use
 in_use_length = length-replicate slots call_in_use
 
-freed_at_lem : (i : ℕ) → i < slots → lowest_free (freed_at i) ≡ At i
+freed_at_lem : (i : ℕ) → i < slots → lowest_free (freed_at i) ≡ Some i
 freed_at_lem i s = freed_found all_in_use i unopened_call all_in_use_lem s (omega (arith, s, in_use_length)) refl
 
-pub every_slot_asked : (i : ℕ) → i < slots → (lowest_free all_in_use ≡ Nowhere) × (lowest_free (freed_at i) ≡ At i) × Matters i (freed_at i) all_in_use
+pub every_slot_asked : (i : ℕ) → i < slots → (lowest_free all_in_use ≡ None) × (lowest_free (freed_at i) ≡ Some i) × Matters i (freed_at i) all_in_use
 every_slot_asked i s = (all_in_use_lem, freed_at_lem i s, differs)
   where
     differs : Matters i (freed_at i) all_in_use
@@ -193,7 +192,7 @@ every_slot_asked i s = (all_in_use_lem, freed_at_lem i s, differs)
         }
 
 -- the slot found is one that an opening takes
-pub lowest_takes_opening : (cs : List Call) (i r f : ℕ) (n : Number) → lowest_free cs ≡ At i → event_ok (Opening r f n) ≡ true →
+pub lowest_takes_opening : (cs : List Call) (i r f : ℕ) (n : Number) → lowest_free cs ≡ Some i → event_ok (Opening r f n) ≡ true →
     (answer_at cs i (Opening r f n)).number ≡ 0
 lowest_takes_opening cs i r f n h k =
     let l = (lowest_exactly cs i).0 h in

@@ -11,6 +11,7 @@ use mathlib.Core.Logic.{◌↔◌}
 use mathlib.Core.Option.{some}
 use Prim.Native.Nat.{ℕ, ◌≤◌, ◌<◌, zero-le}
 use lib.ListN.{length, get_elem?, set}
+use Rattle.std.specs.Prelude.{Some, None}
 use Rattle.meters.specs.declared.Payer.TheVariants.{Nobody}
 use Rattle.rows.specs.History.{run, history}
 use Rattle.rows.specs.Step.{unopened_call, free_of, step_of}
@@ -22,7 +23,6 @@ use Rattle.rows.specs.declared.Number.{Number}
 use Rattle.rows.specs.declared.Phase.TheVariants.{Answered}
 use Rattle.board.specs.Promises.{LowestAt, NoneFree, Matters, all_in_use, freed_at}
 use Rattle.board.specs.Row.{no_slot, answer_at, row_after, free_number, lowest_free, Named, run_row, own_of, steps_at, empty_row}
-use Rattle.board.specs.declared.Free.TheVariants.{At, Nowhere}
 use Rattle.board.proofs.Laws
 use Rattle.board.proofs.Lowest
 use Rattle.board.proofs.Nineteen
@@ -79,13 +79,13 @@ pub nineteen_exactly : (cs : List Call) (i : ℕ) (e : Event) → ((answer_at cs
 nineteen_exactly = Nineteen.nineteen_exactly
 
 -- A row with no call has no slot, and none that is free.
-pub no_calls : (i : ℕ) (e : Event) → (answer_at [] i e ≡ no_slot) × (lowest_free [] ≡ Nowhere)
+pub no_calls : (i : ℕ) (e : Event) → (answer_at [] i e ≡ no_slot) × (lowest_free [] ≡ None)
 no_calls i e = ((Laws.past_the_end [] i e zero-le).0, refl)
 
 -- ---- "The host may ask for the lowest free slot; it is refused exactly if none is free"
 
 -- A slot is the answer exactly if it is there, below 64 and free, and no lower one is ..
-pub lowest_exactly : (cs : List Call) (i : ℕ) → (lowest_free cs ≡ At i) ↔ LowestAt cs i
+pub lowest_exactly : (cs : List Call) (i : ℕ) → (lowest_free cs ≡ Some i) ↔ LowestAt cs i
 lowest_exactly = Lowest.lowest_exactly
 
 -- .. and the answer is 21 exactly if no slot is free.
@@ -93,18 +93,18 @@ pub nowhere_exactly : (cs : List Call) → (free_number (lowest_free cs) ≡ 21)
 nowhere_exactly = Lowest.nowhere_exactly
 
 -- The slot found takes an opening: one with its fields in range is accepted there.
-pub lowest_takes_opening : (cs : List Call) (i r f : ℕ) (n : Number) → lowest_free cs ≡ At i → event_ok (Opening r f n) ≡ true →
+pub lowest_takes_opening : (cs : List Call) (i r f : ℕ) (n : Number) → lowest_free cs ≡ Some i → event_ok (Opening r f n) ≡ true →
     (answer_at cs i (Opening r f n)).number ≡ 0
 lowest_takes_opening = Lowest.lowest_takes_opening
 
 -- Where none is free, whichever slot gets a free call is the answer ..
-pub freed_found : (cs : List Call) (i : ℕ) (c : Call) → lowest_free cs ≡ Nowhere → i < 64 → i < length cs → free_of c ≡ true →
-    lowest_free (set cs i c) ≡ At i
+pub freed_found : (cs : List Call) (i : ℕ) (c : Call) → lowest_free cs ≡ None → i < 64 → i < length cs → free_of c ≡ true →
+    lowest_free (set cs i c) ≡ Some i
 freed_found = Lowest.freed_found
 
 -- .. so "The question for a free slot depends on every slot": 64 calls in use get 21, and the same with the slot i not opened get i; these two
 -- rows differ there alone.
-pub every_slot_asked : (i : ℕ) → i < 64 → (lowest_free all_in_use ≡ Nowhere) × (lowest_free (freed_at i) ≡ At i) × Matters i (freed_at i) all_in_use
+pub every_slot_asked : (i : ℕ) → i < 64 → (lowest_free all_in_use ≡ None) × (lowest_free (freed_at i) ≡ Some i) × Matters i (freed_at i) all_in_use
 every_slot_asked = Lowest.every_slot_asked
 
 -- ---- Many events, each at its slot: every slot is a call of its own

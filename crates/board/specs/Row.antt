@@ -1,7 +1,7 @@
 -- A row of calls, of which the first 64 are slots: the answer to an event that names one, the row that it leaves, the lowest free slot, and
 -- the row after a list of such events, with the history of each slot.
 -- Assumes nothing.
-use Rattle.std.specs.Prelude.{ℕ, zero, suc, Bool, false, ◌||◌, List, [], ◌∷◌, eqb, ltb, get_or, replicate}
+use Rattle.std.specs.Prelude.{Option, Some, None, ℕ, zero, suc, Bool, false, ◌||◌, List, [], ◌∷◌, eqb, ltb, get_or, replicate}
 use Rattle.rows.specs.Bill.{pick, Step}
 use Rattle.rows.specs.History.{written}
 use Rattle.rows.specs.Numbers.{applied}
@@ -11,8 +11,6 @@ use Rattle.rows.specs.declared.Call.{Call}
 use Rattle.rows.specs.declared.Event.{Event}
 use Rattle.rows.specs.declared.Outcome.{Outcome}
 use Rattle.board.specs.Numbers.{no_such_slot, none_free, slots}
-use Rattle.board.specs.declared.Free.{Free}
-use Rattle.board.specs.declared.Free.TheVariants.{At, Nowhere}
 
 -- ---- An event at a slot
 
@@ -46,14 +44,14 @@ row_after cs i e = pick (ltb i slots) (row_in cs i e) cs
 -- ---- The question for a free slot: "The host may ask for the lowest free slot; it is refused exactly if none is free"
 
 -- the number of an answer ..
-abbrev pub free_number : Free → ℕ
-free_number (At i) = applied
-free_number Nowhere = none_free
+abbrev pub free_number : Option ℕ → ℕ
+free_number (Some i) = applied
+free_number None = none_free
 
 -- .. and its value: the slot, and 0 where there is none
-abbrev pub free_slot : Free → ℕ
-free_slot (At i) = i
-free_slot Nowhere = 0
+abbrev pub free_slot : Option ℕ → ℕ
+free_slot (Some i) = i
+free_slot None = 0
 
 -- one of the first k is free
 abbrev pub some_free : ℕ → List Call → Bool
@@ -62,12 +60,12 @@ some_free (suc k) [] = false
 some_free (suc k) (c ∷ cs) = free_of c || some_free k cs
 
 -- the first free one of k slots, counted from i
-abbrev pub free_from : ℕ → ℕ → List Call → Free
-free_from zero i cs = Nowhere
-free_from (suc k) i [] = Nowhere
-free_from (suc k) i (c ∷ cs) = pick (free_of c) (At i) (free_from k (suc i) cs)
+abbrev pub free_from : ℕ → ℕ → List Call → Option ℕ
+free_from zero i cs = None
+free_from (suc k) i [] = None
+free_from (suc k) i (c ∷ cs) = pick (free_of c) (Some i) (free_from k (suc i) cs)
 
-abbrev pub lowest_free : List Call → Free
+abbrev pub lowest_free : List Call → Option ℕ
 lowest_free cs = free_from slots 0 cs
 
 -- the number that goes with it: "it is refused exactly if none is free"

@@ -1,6 +1,6 @@
 -- Rows worked through, by the definitions alone.
 -- Assumes nothing.
-use Rattle.std.specs.Prelude.{false, ◌≡◌, refl, List, [], ◌∷◌, ℕ, replicate}
+use Rattle.std.specs.Prelude.{Some, None, false, ◌≡◌, refl, List, [], ◌∷◌, ℕ, replicate}
 use Rattle.rows.specs.History.{run}
 use Rattle.rows.specs.Perform.{at, refused_of}
 use Rattle.rows.specs.Step.{unopened_call}
@@ -14,7 +14,6 @@ use Rattle.rows.specs.declared.Phase.TheVariants.{Unopened, Null, Setup, Cleared
 use Rattle.rows.specs.declared.RevState.TheVariants.{Active}
 use Rattle.board.specs.Promises.{call_in_use}
 use Rattle.board.specs.Row.{no_slot, answer_at, row_after, free_number, lowest_free, Named, run_row, own_of, empty_row}
-use Rattle.board.specs.declared.Free.TheVariants.{At, Nowhere}
 
 abbrev seven : Number
 seven = record { nature = National; count = 1; value = 7 }
@@ -33,13 +32,13 @@ phases (c ∷ cs) = c.stand.phase ∷ phases cs
 abbrev three : List Call
 three = call_in_use ∷ unopened_call ∷ call_in_use ∷ []
 
-pub three_has_one : lowest_free three ≡ At 1
+pub three_has_one : lowest_free three ≡ Some 1
 three_has_one = refl
 
 pub three_opened : ((answer_at three 1 opens).number ≡ 0) × (phases (row_after three 1 opens) ≡ Null ∷ Null ∷ Null ∷ [])
 three_opened = (refl, refl)
 
-pub three_full : lowest_free (row_after three 1 opens) ≡ Nowhere
+pub three_full : lowest_free (row_after three 1 opens) ≡ None
 three_full = refl
 
 pub three_refused : free_number (lowest_free (row_after three 1 opens)) ≡ 21
@@ -49,17 +48,17 @@ three_refused = refl
 abbrev cleared_call : Call
 cleared_call = run unopened_call (opens ∷ Ask 0 seven ∷ FromAccess 4 0 ∷ [])
 
-pub cleared_is_free : (cleared_call.stand.phase ≡ Cleared) × (lowest_free (call_in_use ∷ cleared_call ∷ []) ≡ At 1)
+pub cleared_is_free : (cleared_call.stand.phase ≡ Cleared) × (lowest_free (call_in_use ∷ cleared_call ∷ []) ≡ Some 1)
 cleared_is_free = (refl, refl)
 
 abbrev no_call : Call
 no_call = record { side = unopened_call.side; stand = at Unopened Active false false; meters = unopened_call.meters }
 
-pub nine_is_not_free : ((answer_at (no_call ∷ []) 0 opens).number ≡ 9) × (lowest_free (no_call ∷ unopened_call ∷ []) ≡ At 1)
+pub nine_is_not_free : ((answer_at (no_call ∷ []) 0 opens).number ≡ 9) × (lowest_free (no_call ∷ unopened_call ∷ []) ≡ Some 1)
 nine_is_not_free = (refl, refl)
 
 -- two are free: the lower one is the answer
-pub lower_of_two : lowest_free (call_in_use ∷ unopened_call ∷ unopened_call ∷ []) ≡ At 1
+pub lower_of_two : lowest_free (call_in_use ∷ unopened_call ∷ unopened_call ∷ []) ≡ Some 1
 lower_of_two = refl
 
 -- past the end of a row of three; and past 63, where the row goes on
@@ -76,11 +75,11 @@ last_slot = (refl, refl)
 pub empty_nineteen : (answer_at [] 0 opens).number ≡ 19
 empty_nineteen = refl
 
-pub empty_nowhere : lowest_free [] ≡ Nowhere
+pub empty_nowhere : lowest_free [] ≡ None
 empty_nowhere = refl
 
 -- the program's row, before any event: slot 0 is free
-pub first_is_free : lowest_free empty_row ≡ At 0
+pub first_is_free : lowest_free empty_row ≡ Some 0
 unfolding empty_row
 first_is_free = refl
 

@@ -85,6 +85,7 @@ pub enum Component {
 }
 
 // A message received. A number or Duration that its parts do not name is absent, or 0.
+// Kept: raw numbers, here and in Event, since a record whose number is out of its range is an event too: `three_exactly` answers it 3.
 #[derive(Clone, Copy)]
 pub struct Message {
     pub kind: u8,
@@ -360,7 +361,7 @@ pub struct Terms {
 }
 
 // What a row does. number: 0, or the refusal.
-// Kept: the number, for of all rows only eight may lack a part (`needs`), and each plan of the others would stand in a Some.
+// Kept: the number and the four acts have the form that they have in an Outcome, and the definition `given_of` copies them into it.
 #[derive(Clone, Copy)]
 pub struct Plan {
     pub number: u8,
@@ -467,6 +468,8 @@ pub struct Call {
 // The answer to an event. The actions stand in order, and the note has what they carry; Nothing among them is none, and a host
 // skips it. A refusal has the call as it stood and no action. Where the number is 3, field is the ordinal of the event's first field that is
 // out of its range, from 1 as they stand in a record's body; else it is 0.
+// Kept: the numbers are those that document 01 gives back, and theorems speak of them (`three_tells`, `nine_exactly`, `else_no_field`);
+// four fields for the acts, since `NothingDone`, `AsFresh` and `deeds_of` (Promises.antt, Step.antt) name each.
 #[derive(Clone, Copy)]
 pub struct Outcome {
     pub number: u8,

@@ -75,7 +75,7 @@ impl Call {
     pub fn step(self, e: Event) -> Outcome
         ensures { result ≡ step_of self e }
     {
-        if !valid::valid(self) {
+        if !self.valid() {
             self.refused(NOT_A_CALL)
         } else if let Some(number) = untimely(self.stand.phase, e) {
             self.refused(number)
@@ -88,7 +88,7 @@ impl Call {
     pub fn is_free(self) -> bool
         ensures { result ≡ free_of self }
     {
-        valid::valid(self) && matches!(self.stand.phase, Phase::Unopened | Phase::Cleared)
+        self.valid() && matches!(self.stand.phase, Phase::Unopened | Phase::Cleared)
     }
 }
 

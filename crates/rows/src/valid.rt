@@ -13,31 +13,6 @@ use meters::{Meters, Payer};
 
 // ---- 9: a call that a host hands in
 
-// The table of phases and REV states.
-fn placed(role: Role, phase: Phase, s: RevState) -> bool
-    ensures { result ≡ placed_of role phase s }
-{
-    match (phase, role) {
-        (Phase::Unopened | Phase::Null | Phase::Cleared, _) => matches!(s, RevState::Idle),
-        (Phase::Setup, Role::Originating) => matches!(
-            s,
-            RevState::Idle | RevState::WaitSetup | RevState::WaitAnswer
-        ),
-        (Phase::Setup, Role::Destination) => matches!(
-            s,
-            RevState::Idle | RevState::WaitAnswer | RevState::WaitSetupConf | RevState::WaitCalled
-        ),
-        (Phase::Answered, Role::Originating) => matches!(
-            s,
-            RevState::Idle | RevState::WaitActive | RevState::Active
-        ),
-        (Phase::Answered, Role::Destination) => matches!(
-            s,
-            RevState::Idle | RevState::WaitActiveConf | RevState::WaitCalled | RevState::Active
-        ),
-    }
-}
-
 // Ten to the count, for a count of at most 15; above that 0, so that no value lies below it. (A table would be laid out on the
 // stack at each use.)
 fn ten_to(count: u8) -> u64
@@ -88,16 +63,6 @@ fn tallied(role: Role, m: Meters) -> bool
     }
 }
 
-// The meters that a phase allows.
-fn metered(role: Role, phase: Phase, m: Meters) -> bool
-    ensures { result ≡ metered_of role phase m }
-{
-    match phase {
-        Phase::Unopened | Phase::Null | Phase::Setup => unmetered(m),
-        Phase::Answered | Phase::Cleared => tallied(role, m),
-    }
-}
-
 // The payers of an ANSWERED call: there is one, and at a destination the caller is never charged.
 fn paying_there(role: Role, p: Payer) -> bool
     ensures { result ≡ paying_there role p }
@@ -108,16 +73,6 @@ fn paying_there(role: Role, p: Payer) -> bool
     }
 }
 
-// The payers that a phase allows.
-fn paying(role: Role, phase: Phase, p: Payer) -> bool
-    ensures { result ≡ paying_of role phase p }
-{
-    match phase {
-        Phase::Answered => paying_there(role, p),
-        Phase::Unopened | Phase::Null | Phase::Setup | Phase::Cleared => p == Payer::Nobody,
-    }
-}
-
 // A held number is absent or in range.
 fn numbers_held(side: Side) -> bool
     ensures { result ≡ numbers_held side }
@@ -125,15 +80,67 @@ fn numbers_held(side: Side) -> bool
     in_range(side.own) && in_range(side.calling) && in_range(side.called)
 }
 
-// A call that step takes.
-pub(crate) fn valid(c: Call) -> bool
-    ensures { result ≡ valid_of c }
-{
-    placed(c.side.role, c.stand.phase, c.stand.rev)
-        && metered(c.side.role, c.stand.phase, c.meters)
-        && c.meters.within()
-        && paying(c.side.role, c.stand.phase, c.meters.payer)
-        && numbers_held(c.side)
+impl Call {
+    // The table of phases and REV states.
+    fn placed(self) -> bool
+        ensures { result ≡ placed_of self.side.role self.stand.phase self.stand.rev }
+    {
+        matches!(
+            (self.stand.phase, self.side.role, self.stand.rev),
+            (_, _, RevState::Idle)
+                | (
+                    Phase::Setup,
+                    Role::Originating,
+                    RevState::WaitSetup | RevState::WaitAnswer
+                )
+                | (
+                    Phase::Setup,
+                    Role::Destination,
+                    RevState::WaitAnswer | RevState::WaitSetupConf | RevState::WaitCalled
+                )
+                | (
+                    Phase::Answered,
+                    Role::Originating,
+                    RevState::WaitActive | RevState::Active
+                )
+                | (
+                    Phase::Answered,
+                    Role::Destination,
+                    RevState::WaitActiveConf | RevState::WaitCalled | RevState::Active
+                )
+        )
+    }
+
+    // The meters that a phase allows.
+    fn metered(self) -> bool
+        ensures { result ≡ metered_of self.side.role self.stand.phase self.meters }
+    {
+        match self.stand.phase {
+            Phase::Unopened | Phase::Null | Phase::Setup => unmetered(self.meters),
+            Phase::Answered | Phase::Cleared => tallied(self.side.role, self.meters),
+        }
+    }
+
+    // The payers that a phase allows.
+    fn paying(self) -> bool
+        ensures { result ≡ paying_of self.side.role self.stand.phase self.meters.payer }
+    {
+        match self.stand.phase {
+            Phase::Answered => paying_there(self.side.role, self.meters.payer),
+            _ => self.meters.payer == Payer::Nobody,
+        }
+    }
+
+    // A call that step takes.
+    pub(crate) fn valid(self) -> bool
+        ensures { result ≡ valid_of self }
+    {
+        self.placed()
+            && self.metered()
+            && self.meters.within()
+            && self.paying()
+            && numbers_held(self.side)
+    }
 }
 
 // ---- 3: a field out of its range
