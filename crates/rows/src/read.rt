@@ -149,10 +149,10 @@ fn only(kind: Kind) -> Reading
 }
 
 impl From<Event> for Reading {
-    ghost from_gives = { λ e given. given ≡ read_of e };
+    ghost from_gives = { λ event given. given ≡ read_of event };
 
-    fn from(e: Event) -> Self {
-        match e {
+    fn from(event: Event) -> Self {
+        match event {
             Event::Opening(role, flags, own) => Reading {
                 item: role,
                 flags,
@@ -164,7 +164,7 @@ impl From<Event> for Reading {
                 called,
                 ..only(Kind::Asks)
             },
-            Event::Received(m) => Reading::from(m),
+            Event::Received(message) => Reading::from(message),
             // The access gives no cause: 16 if none.
             Event::FromAccess(item, error) => Reading {
                 item,
@@ -182,31 +182,31 @@ impl From<Event> for Reading {
 }
 
 impl From<Message> for Reading {
-    ghost from_gives = { λ m given. given ≡ read_message m };
+    ghost from_gives = { λ message given. given ≡ read_message message };
 
-    fn from(m: Message) -> Self {
+    fn from(message: Message) -> Self {
         Reading {
-            component: m.component,
-            parts: m.parts,
-            error: error_of(m.component),
-            cause: m.cause,
-            seconds: m.duration,
-            calling: m.calling,
-            called: m.called,
-            ..only(kind_of(m.kind))
+            component: message.component,
+            parts: message.parts,
+            error: error_of(message.component),
+            cause: message.cause,
+            seconds: message.duration,
+            calling: message.calling,
+            called: message.called,
+            ..only(kind_of(message.kind))
         }
     }
 }
 
 impl From<Reading> for Cue {
-    ghost from_gives = { λ r given. given ≡ cue_of r };
+    ghost from_gives = { λ reading given. given ≡ cue_of reading };
 
-    fn from(r: Reading) -> Self {
+    fn from(reading: Reading) -> Self {
         Cue {
-            kind: r.kind,
-            asked: Asked::from(r.item),
-            heard: Heard::from(r.component),
-            told: Told::from(r.item),
+            kind: reading.kind,
+            asked: Asked::from(reading.item),
+            heard: Heard::from(reading.component),
+            told: Told::from(reading.item),
         }
     }
 }
@@ -304,26 +304,26 @@ fn judged_by(barred: bool, allowed: bool) -> Judged
     }
 }
 
-pub(crate) fn terms_of(f: Flags, at: Stand, r: Reading) -> Terms
-    ensures { result ≡ terms_of f at r }
+pub(crate) fn terms_of(flags: Flags, at: Stand, reading: Reading) -> Terms
+    ensures { result ≡ terms_of flags at reading }
 {
-    let transfer_asked = r.parts % 2 == 1;
-    let transfer_accepted = has(r.parts, ACCEPTED) && has(r.parts, AS_TRANSFER);
+    let transfer_asked = reading.parts % 2 == 1;
+    let transfer_accepted = has(reading.parts, ACCEPTED) && has(reading.parts, AS_TRANSFER);
     Terms {
-        interaction: Interaction::from(f.interaction),
-        judged: judged_by(f.option && !f.subscribed, f.interaction),
-        mode: Mode::from(f.transfer),
-        service: Service::from(f.unconditional),
-        taken: Mode::from(f.transfer && transfer_asked),
-        accepted: Mode::from(f.transfer && transfer_accepted),
-        extent: Extent::from(has(r.parts, PARTIAL)),
+        interaction: Interaction::from(flags.interaction),
+        judged: judged_by(flags.option && !flags.subscribed, flags.interaction),
+        mode: Mode::from(flags.transfer),
+        service: Service::from(flags.unconditional),
+        taken: Mode::from(flags.transfer && transfer_asked),
+        accepted: Mode::from(flags.transfer && transfer_accepted),
+        extent: Extent::from(has(reading.parts, PARTIAL)),
         agreed: Mode::from(at.agreed),
         asked: Extent::from(at.rest),
-        called: transfer_asked || has(r.parts, CALLED_PART),
-        calling: has(r.parts, CALLING_PART),
-        duration: has(r.parts, DURATION_PART),
-        correct: Correctness::from(listed(r.error)),
-        error: r.error,
-        cause: r.cause,
+        called: transfer_asked || has(reading.parts, CALLED_PART),
+        calling: has(reading.parts, CALLING_PART),
+        duration: has(reading.parts, DURATION_PART),
+        correct: Correctness::from(listed(reading.error)),
+        error: reading.error,
+        cause: reading.cause,
     }
 }

@@ -10,74 +10,81 @@ use crate::{Cue, Kind, Phase, Role};
 // ---- Each phase: the events that have a row in one of its REV states
 
 // before the opening, and after the clearing.
-fn vacant_has(e: Cue) -> bool
-    ensures { result ≡ vacant_has e.kind e }
+fn vacant_has(event: Cue) -> bool
+    ensures { result ≡ vacant_has event.kind event }
 {
-    matches!(e.kind, Kind::Opens)
+    matches!(event.kind, Kind::Opens)
 }
 
 // originating, NULL.
-fn originating_null_has(e: Cue) -> bool
-    ensures { result ≡ originating_null_has e.kind e }
+fn originating_null_has(event: Cue) -> bool
+    ensures { result ≡ originating_null_has event.kind event }
 {
-    match e.kind {
-        Kind::Asks => e.asked.basic || e.asked.casea,
+    match event.kind {
+        Kind::Asks => event.asked.basic || event.asked.casea,
         _ => false,
     }
 }
 
 // originating, SETUP.
-fn originating_setup_has(e: Cue) -> bool
-    ensures { result ≡ originating_setup_has e.kind e }
+fn originating_setup_has(event: Cue) -> bool
+    ensures { result ≡ originating_setup_has event.kind event }
 {
-    match e.kind {
-        Kind::Answer => e.heard.alone || e.heard.resultsetup,
-        Kind::Fac => e.heard.invokecalled,
-        Kind::Tells => e.told.clears,
+    match event.kind {
+        Kind::Answer => event.heard.alone || event.heard.resultsetup,
+        Kind::Fac => event.heard.invokecalled,
+        Kind::Tells => event.told.clears,
         Kind::Rel | Kind::Expires | Kind::Passes => true,
         _ => false,
     }
 }
 
 // originating, ANSWERED.
-fn originating_answered_has(e: Cue) -> bool
-    ensures { result ≡ originating_answered_has e.kind e }
+fn originating_answered_has(event: Cue) -> bool
+    ensures { result ≡ originating_answered_has event.kind event }
 {
-    match e.kind {
-        Kind::Asks => e.asked.caseb || e.asked.reversal,
+    match event.kind {
+        Kind::Asks => event.asked.caseb || event.asked.reversal,
         Kind::Fac => {
-            e.heard.invokecalled
-                || e.heard.invoke
-                || e.heard.resultactive
-                || e.heard.failure
-                || e.heard.rejection
-                || e.heard.alone
+            event.heard.invokecalled
+                || event.heard.invoke
+                || event.heard.resultactive
+                || event.heard.failure
+                || event.heard.rejection
+                || event.heard.alone
         }
-        Kind::Tells => e.told.clears,
+        Kind::Tells => event.told.clears,
         Kind::Rel | Kind::Expires | Kind::Passes => true,
         _ => false,
     }
 }
 
 // destination, NULL.
-fn destination_null_has(e: Cue) -> bool
-    ensures { result ≡ destination_null_has e.kind e }
+fn destination_null_has(event: Cue) -> bool
+    ensures { result ≡ destination_null_has event.kind event }
 {
-    match e.kind {
-        Kind::Iam => e.heard.alone || e.heard.invokesetup,
+    match event.kind {
+        Kind::Iam => event.heard.alone || event.heard.invokesetup,
         _ => false,
     }
 }
 
 // destination, SETUP.
-fn destination_setup_has(e: Cue) -> bool
-    ensures { result ≡ destination_setup_has e.kind e }
+fn destination_setup_has(event: Cue) -> bool
+    ensures { result ≡ destination_setup_has event.kind event }
 {
-    match e.kind {
-        Kind::Asks => e.asked.reversal,
-        Kind::Fac => e.heard.invoke || e.heard.resultcalled || e.heard.failure || e.heard.rejection,
+    match event.kind {
+        Kind::Asks => event.asked.reversal,
+        Kind::Fac => event.heard.invoke
+            || event.heard.resultcalled
+            || event.heard.failure
+            || event.heard.rejection,
         Kind::Tells => {
-            e.told.answers || e.told.clears || e.told.accepts || e.told.refuses || e.told.rejects
+            event.told.answers
+                || event.told.clears
+                || event.told.accepts
+                || event.told.refuses
+                || event.told.rejects
         }
         Kind::Rel | Kind::Expires | Kind::Passes => true,
         _ => false,
@@ -85,58 +92,61 @@ fn destination_setup_has(e: Cue) -> bool
 }
 
 // destination, ANSWERED.
-fn destination_answered_has(e: Cue) -> bool
-    ensures { result ≡ destination_answered_has e.kind e }
+fn destination_answered_has(event: Cue) -> bool
+    ensures { result ≡ destination_answered_has event.kind event }
 {
-    match e.kind {
-        Kind::Asks => e.asked.caseb || e.asked.casec || e.asked.reversal,
+    match event.kind {
+        Kind::Asks => event.asked.caseb || event.asked.casec || event.asked.reversal,
         Kind::Fac => {
-            e.heard.invokeactive
-                || e.heard.invoke
-                || e.heard.resultcalled
-                || e.heard.failure
-                || e.heard.rejection
+            event.heard.invokeactive
+                || event.heard.invoke
+                || event.heard.resultcalled
+                || event.heard.failure
+                || event.heard.rejection
         }
-        Kind::Tells => e.told.clears || e.told.accepts || e.told.refuses || e.told.rejects,
+        Kind::Tells => event.told.clears
+            || event.told.accepts
+            || event.told.refuses
+            || event.told.rejects,
         Kind::Rel | Kind::Expires | Kind::Passes => true,
         _ => false,
     }
 }
 
 // The role has a row for the event in this phase.
-fn has_row(r: Role, p: Phase, e: Cue) -> bool
-    ensures { result ≡ small_has r p e }
+fn has_row(role: Role, phase: Phase, event: Cue) -> bool
+    ensures { result ≡ small_has role phase event }
 {
-    match (r, p) {
-        (_, Phase::Unopened | Phase::Cleared) => vacant_has(e),
-        (Role::Originating, Phase::Null) => originating_null_has(e),
-        (Role::Originating, Phase::Setup) => originating_setup_has(e),
-        (Role::Originating, Phase::Answered) => originating_answered_has(e),
-        (Role::Destination, Phase::Null) => destination_null_has(e),
-        (Role::Destination, Phase::Setup) => destination_setup_has(e),
-        (Role::Destination, Phase::Answered) => destination_answered_has(e),
+    match (role, phase) {
+        (_, Phase::Unopened | Phase::Cleared) => vacant_has(event),
+        (Role::Originating, Phase::Null) => originating_null_has(event),
+        (Role::Originating, Phase::Setup) => originating_setup_has(event),
+        (Role::Originating, Phase::Answered) => originating_answered_has(event),
+        (Role::Destination, Phase::Null) => destination_null_has(event),
+        (Role::Destination, Phase::Setup) => destination_setup_has(event),
+        (Role::Destination, Phase::Answered) => destination_answered_has(event),
     }
 }
 
 // At any time.
-fn has_ever(r: Role, e: Cue) -> bool
-    ensures { result ≡ small_ever r e }
+fn has_ever(role: Role, event: Cue) -> bool
+    ensures { result ≡ small_ever role event }
 {
-    has_row(r, Phase::Unopened, e)
-        || has_row(r, Phase::Null, e)
-        || has_row(r, Phase::Setup, e)
-        || has_row(r, Phase::Answered, e)
-        || has_row(r, Phase::Cleared, e)
+    has_row(role, Phase::Unopened, event)
+        || has_row(role, Phase::Null, event)
+        || has_row(role, Phase::Setup, event)
+        || has_row(role, Phase::Answered, event)
+        || has_row(role, Phase::Cleared, event)
 }
 
 // The number for an event that found no row in this phase.
 // Kept: the number itself, as a host in C is given it (rev.h) and `why_of` has it.
-pub(crate) fn why(r: Role, p: Phase, e: Cue) -> u8
-    ensures { result ≡ why_of r p e }
+pub(crate) fn why(role: Role, phase: Phase, event: Cue) -> u8
+    ensures { result ≡ why_of role phase event }
 {
-    if has_row(r, p, e) {
+    if has_row(role, phase, event) {
         WRONG_STATE
-    } else if has_ever(r, e) {
+    } else if has_ever(role, event) {
         WRONG_PHASE
     } else {
         NO_ROW
