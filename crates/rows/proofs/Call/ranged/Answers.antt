@@ -1,4 +1,4 @@
-use Rattle.std.proofs.Common.{sym, ◌∙◌}
+use Rattle.std.proofs.Common.{◌∙◌}
 use Rattle.rows.proofs.Ranges.{none_told, some_told, in_range_lem, out_of_range}
 use Rattle.rows.proofs.Call.ranged.Goals as goal
 
