@@ -15,7 +15,7 @@ pub const ABSENT: Number = Number { count: 0, value: 0 };
 fn module(s: &[u8], i: usize) -> bool
     ensures { result ≡ module_at s.now i }
 {
-    6 <= s.len() && i <= s.len() - 6 && s[i..i + 6] == [0, 17, 133, 96, 3, 1]
+    6 <= s.len() && i <= s.len() - 6 && matches!(&s[i..i + 6], [0, 17, 133, 96, 3, 1])
 }
 
 // The module's identifier, and after it a number from `low` to `high`.
