@@ -68,21 +68,3 @@ pairs_bad s i j m v b d e f g h l =
     let z : suc (m - suc j + j) ≡ m = omega arith in
     let y : None ≡ pairs_at s i (suc j) = sym h ∙ g ∙ rw f (ap (λ (x : Digits). pair_on x (byte_at s (i + (2 + j)))) e) in
     bad_on s i j (m - suc j) y ∙ ap (pairs_at s i) z
-
-pub paired_value : (v b w : ℕ) (r : Digits) → b % 16 ≤ 9 → b / 16 ≤ 9 → w ≡ b % 16 * 10 + b / 16 → r ≡ Some (v * 100 + w) → r ≡ paired_of v b
-unfolding paired_of
-paired_value v b w r f g e h = no_lt _ _ _ _ _ f (no_lt _ _ _ _ _ g (h ∙ rw e))
-
-module _ (m first second : ℕ) (d : Digits) where
-  pub digited_bad : d ≡ None → absent_number ≡ digited_of m first second d
-  unfolding digited_of
-  digited_bad e = ap (λ (x : Digits). digited_of m first second x) (sym e)
-
-  pub digited_value : (v : ℕ) (r : Number) → d ≡ Some v → r ≡ natured_of m first second v → r ≡ digited_of m first second d
-  unfolding digited_of
-  digited_value v r e f = f ∙ ap (λ (x : Digits). digited_of m first second x) (sym e)
-
-pub party_read : (s : List ℕ) (i m k a b : ℕ) (d : Digits) (r : Number) → m ≤ 8 → d ≡ pairs_at s i m → k ≡ m → a ≡ byte_at s i → b ≡ byte_at s (i + 1)
-    → r ≡ digited_of k a b d → r ≡ party_by s i m
-unfolding party_by
-party_read s i m k a b d r h e z f g l = no_lt _ _ _ _ _ h (l ∙ rw (e, z, f, g))

@@ -27,11 +27,6 @@ pub cap_high : (n : ℕ) → most ≤ n → most ≡ capped n
 unfolding capped
 cap_high n h = no_lt _ _ _ _ _ h refl
 
--- what 64 bits hold stays; M itself stands for itself too
-pub cap_fits : (n : ℕ) → n ≤ most → n ≡ capped n
-unfolding capped
-cap_fits n h = both_lt n most (λ (x : ℕ). n ≡ x) _ _ (λ _. refl) (λ g. omega arith)
-
 -- a further byte, of the number cut or whole
 cap_by : (P : ℕ → Type 0) (n : ℕ) → P n → (most ≤ n → P most) → P (capped n)
 unfolding capped
@@ -104,10 +99,6 @@ pub place_past : (s : List ℕ) (at end : ℕ) → at + 1 ≤ length_place s at 
 unfolding length_place tag_after
 place_past s at end = both_eq _ _ (λ (x : ℕ). at + 1 ≤ x) _ _ (λ _. tag_by_past (end - (at + 1)) s (at + 1)) (λ _. omega arith)
 
-pub place_far : (s : List ℕ) (at end b r : ℕ) → b ≡ byte_at s at → b % 32 ≡ 31 → r ≡ tag_after s (at + 1) end → r ≡ length_place s at end
-unfolding length_place
-place_far s at end b r e f g = yes_eq _ _ _ _ _ (omega arith) g
-
 pub place_near : (s : List ℕ) (at end b : ℕ) → b ≡ byte_at s at → (b % 32 ≡ 31 → ⊥) → at + 1 ≡ length_place s at end
 unfolding length_place
 place_near s at end b e f = no_eq _ _ _ _ _ (λ g. f (omega arith)) refl
@@ -136,20 +127,12 @@ unfolding head_of
 head_none s at end short h = yes_le _ _ _ _ _ h refl
 
 module _ (s : List ℕ) (tag place end short : ℕ) where
-  pub from_none : end ≤ place → Err short ≡ head_from s tag place end short
-  unfolding head_from
-  from_none g = yes_le _ _ _ _ _ g refl
-
   pub from_full : (b first : ℕ) (r : Head) → place < end → b ≡ byte_at s place → first ≡ b → r ≡ length_of s tag first (place + 1) end short
       → r ≡ head_from s tag place end short
   unfolding head_from
   from_full b first r g j k l = no_le _ _ _ _ _ g (l ∙ rw (k, j))
 
 module _ (s : List ℕ) (at end short tag : ℕ) (r : Head) (h : at < end) (e : tag ≡ byte_at s at) where
-  pub head_far : (place : ℕ) → tag % 32 ≡ 31 → place ≡ tag_after s (at + 1) end → r ≡ head_from s tag place end short → r ≡ head_of s at end short
-  unfolding head_of
-  head_far place g f k = no_le _ _ _ _ _ h (k ∙ rw (e, place_far s at end tag place e g f))
-
   pub head_near : (tag % 32 ≡ 31 → ⊥) → r ≡ head_from s tag (at + 1) end short → r ≡ head_of s at end short
   unfolding head_of
   head_near g k = no_le _ _ _ _ _ h (k ∙ rw (e, place_near s at end tag e g))

@@ -18,35 +18,6 @@ use Rattle.wire.specs.declared.Element.{Element}
 use Rattle.wire.specs.Answers.{Answer, Head, refusal}
 use Rattle.std.specs.Prelude.{Ok, Err}
 
--- ---- what a SEQUENCE's own elements say
-
-flag_most : (place b off on m : ℕ) → off ≤ m → on ≤ m → flag_part place b off on ≤ m
-unfolding flag_part
-flag_most place b off on m h g =
-    both_eq _ _ (λ (x : ℕ). x ≤ m) _ _ (λ _. omega arith) (λ _. both_eq _ _ (λ (x : ℕ). x ≤ m) _ _ (λ _. h) (λ _. g))
-
-module _ (s : List ℕ) (c : Cursor) (end : ℕ) (r : Last) where
-  pub partial_most : r ≡ partial_of s c end → r.part ≤ 64
-  unfolding partial_of
-  partial_most e = rw e (flag_most _ _ 0 8 64 (omega arith) (omega arith))
-
-  pub duration_most : r ≡ duration_of s c end → r.part ≤ 64
-  unfolding duration_of
-  duration_most e = rw e (both_eq _ _ (λ (x : Last). x.part ≤ 64) _ _ (λ _. omega arith) (λ _. omega arith))
-
-  module _ (k x : ℕ) where
-    pub last_partial : x ≡ 3 → k ≡ 1 → r ≡ partial_of s c end → r ≡ last_of s c end k x
-    unfolding last_of
-    last_partial h g e = yes_eq _ _ _ _ _ h (yes_eq _ _ _ _ _ g e)
-
-    pub last_duration : x ≡ 3 → (k ≡ 1 → ⊥) → r ≡ duration_of s c end → r ≡ last_of s c end k x
-    unfolding last_of
-    last_duration h g e = yes_eq _ _ _ _ _ h (no_eq _ _ _ _ _ g e)
-
-pub last_none : (s : List ℕ) (c : Cursor) (end k x : ℕ) → (x ≡ 3 → ⊥) → record { cursor = c; part = 0; duration = 0 } ≡ last_of s c end k x
-unfolding last_of
-last_none s c end k x h = no_eq _ _ _ _ _ h refl
-
 -- ---- the component at a place
 
 module _ (s : List ℕ) (at : ℕ) (h : Head) (e : h ≡ head_of s at (length s) 11) where

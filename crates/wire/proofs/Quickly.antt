@@ -173,6 +173,3 @@ module _ (s : List ℕ) (at size : ℕ) (b1 c1 : Bool) (e1 : b1 ≡ begins_of s 
       ∙ ap (λ (y : Component). Ok (y, length s)) (sym em)
 
 -- ---- each first in the usual form
-
-pub usual_read : (s : List ℕ) (a : Answer) (q : Form) (m : Component) → ReadAs s a q → q ≡ Some m → Ok (m, length s) ≡ a
-usual_read s a q m h e = sym (subst (ReadAs s a) e h)

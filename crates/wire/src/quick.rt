@@ -45,13 +45,14 @@ pub fn opening(s: &[u8], at: usize) -> Result<Element, u8>
 {
     let size = short(s, at);
     if size < 128 {
-        return Ok(Element {
+        Ok(Element {
             tag: byte(s, at),
             body: at + 2,
             next: at + 2 + size,
-        });
+        })
+    } else {
+        head(s, at, s.len(), CUT_SHORT)
     }
-    head(s, at, s.len(), CUT_SHORT)
 }
 
 // The place after it; its own where it does not stand there.
@@ -69,7 +70,7 @@ fn number_after(s: &[u8], i: usize) -> usize
     ensures { result ≡ number_after s.now i }
 {
     let size = byte_past(s, i, 1);
-    if (3..=10).contains(&size) {
+    if 3 <= size && size <= 10 {
         after(s, i, 129, usize::from(size))
     } else {
         i
