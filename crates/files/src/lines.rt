@@ -63,6 +63,7 @@ fn put_meters(out: &mut [u8], at: usize, m: Meters) -> usize
 }
 
 // The slot, where slots are shown.
+// Kept: no Option of a slot, here and in put_line and put_record: whether slots are shown is one answer for a whole listing.
 fn put_slot(out: &mut [u8], at: usize, slots: bool, slot: u32) -> usize
     requires { at < 2 ^ 59 }
     ensures put { Put out.old at (slot_text slots slot) out.new result }
@@ -108,6 +109,7 @@ pub(crate) fn put_numbered_line(out: &mut [u8], at: usize, word: &[u8], n: u32) 
 }
 
 // An action's line, with what it carries; none for Nothing.
+// Kept: an arm for each line: some have a word alone, some a number behind it, some a message.
 fn put_action(out: &mut [u8], at: usize, a: Act, m: Note) -> usize
     requires { at < 2 ^ 58 }
     ensures put { Put out.old at (action_text m a) out.new result }
