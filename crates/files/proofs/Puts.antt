@@ -98,13 +98,6 @@ cut_byte : (v : ℕ) → le_of 1 (v % 256) ≡ le_of 1 v
 unfolding le_of
 cut_byte v = let e : v % 256 % 256 ≡ v % 256 = omega arith in ap (λ (b : ℕ). b ∷ []) e
 
--- the count byte by the nature that was matched
-pub home_byte : (nature : Nature) (count : ℕ) → count < 256 → nature ≡ National → count ≡ count_byte nature count % 256
-home_byte nature count h e = rw e (omega arith)
-
-pub abroad_byte : (nature : Nature) (count r : ℕ) → nature ≡ International → r ≡ (128 + count) % 2 ^ 8 → r ≡ count_byte nature count % 256
-abroad_byte nature count r e f = f ∙ rw e refl
-
 -- byte: the count byte as it was made
 pub number_as : (l₀ l₁ l₂ : List ℕ) (i j k byte : ℕ) (n : Number) → byte ≡ count_byte n.nature n.count % 256 → Put l₀ i (le_of 1 byte) l₁ j
     → Put l₁ j (le_of 8 n.value) l₂ k

@@ -44,6 +44,8 @@ fn put_component(out: &mut [u8], at: usize, component: Component) -> usize
 }
 
 // A word where its part is present.
+// Kept: a function for each thing that a part may have, a word, a word and digits, or seconds (put_digits_if, put_duration_if, and
+// put_number_if of words.rt and write.rt): each is one `if`, and one for all would be lent what it puts as a closure at each call.
 pub(crate) fn put_if(out: &mut [u8], at: usize, present: bool, word: &[u8]) -> usize
     requires { at + length word.now < 2 ^ 61 }
     ensures put { Put out.old at (if_so present word.now []) out.new result }

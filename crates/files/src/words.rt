@@ -375,6 +375,7 @@ fn begins_line(words: &[u8], line: &[u8]) -> bool
 }
 
 // Whether a line says an event, plain or at a slot, in its words, without the blank that they begin with.
+// Kept: room for the longest words, since nothing is taken from a heap.
 pub fn says(line: &[u8], w: Where, e: Event) -> bool
     ensures { Says line.now w e result }
 {
