@@ -6,11 +6,12 @@ use Prim.Native.Nat.{ℕ, zero, suc, ◌+◌, ◌/◌, ◌%◌, ◌≤◌, ◌<�
 use native.Mathlib.Omega.{arith}
 use lib.Dec.{eqb}
 use lib.ListN.{get_or}
-use Rattle.std.proofs.Common.{◌==◌, ◌||◌, not, Option, Some, None}
+use Rattle.std.proofs.Common.{Bool, true, false, ◌==◌, ◌&&◌, ◌||◌, not, Option, Some, None}
 use Rattle.text.specs.Choose.{if_eq, if_so}
 use Rattle.text.proofs.Cases.{yes_eq, no_eq, both_eq}
-use Rattle.wire.specs.Writable.{kind_ok, item_ok, parts_ok, number_ok, duration_ok, id_ok, field_if, fields_of, bad_from, ordinal, bad_of, writable_of}
+use Rattle.wire.specs.Writable.{both_ok, kind_ok, item_ok, places_ok, unnamed_ok, untimed_ok, parts_ok, number_ok, duration_ok, id_ok, field_if, fields_of, bad_from, ordinal, bad_of, writable_of}
 use Rattle.wire.specs.declared.Component.{Component}
+use Rattle.wire.specs.declared.Number.{Number}
 
 -- ---- any tests, of which the first has the ordinal k
 
@@ -193,3 +194,36 @@ told_ordinal bad k = both_eq bad 0 (λ (o : Option ℕ). Some k ≡ o → (bad �
 pub told_none : (bad : ℕ) → None ≡ ordinal bad → bad ≡ 0
 unfolding ordinal
 told_none bad = both_eq bad 0 (λ (o : Option ℕ). None ≡ o → bad ≡ 0) _ _ (λ h _. h) (λ _ e. cc)
+
+-- ---- the parts, as the code has them
+
+both_as : (a b : ℕ) → (both_ok a b == 1) ≡ ((a == 1) && (b == 1))
+unfolding both_ok if_eq if_so
+both_as a b = elim (a == 1) as (λ (t : Bool). (if_so t b 0 == 1) ≡ (t && (b == 1))) [ true ↦ refl | false ↦ refl ]
+
+unnamed_as : (k : ℕ) (n : Number) → (unnamed_ok k n == 1) ≡ ((k == 1) || (n.count == 0) && (n.value == 0))
+unfolding unnamed_ok if_eq if_so
+unnamed_as k n =
+    elim (k == 1) as (λ (t : Bool). (if_so t 1 (if_so (n.count == 0) (if_so (n.value == 0) 1 0) 0) == 1) ≡ (t || (n.count == 0) && (n.value == 0))) [
+      | true ↦ refl
+      | false ↦ elim (n.count == 0) as (λ (t : Bool). (if_so t (if_so (n.value == 0) 1 0) 0 == 1) ≡ (t && (n.value == 0))) [
+        | true ↦ elim (n.value == 0) as (λ (t : Bool). (if_so t 1 0 == 1) ≡ t) [ true ↦ refl | false ↦ refl ]
+        | false ↦ refl
+      ]
+    ]
+
+untimed_as : (k t : ℕ) → (untimed_ok k t == 1) ≡ ((k == 1) || (t == 0))
+unfolding untimed_ok if_eq if_so
+untimed_as k n =
+    elim (k == 1) as (λ (t : Bool). (if_so t 1 (if_so (n == 0) 1 0) == 1) ≡ (t || (n == 0))) [
+      | true ↦ refl
+      | false ↦ elim (n == 0) as (λ (t : Bool). (if_so t 1 0 == 1) ≡ t) [ true ↦ refl | false ↦ refl ]
+    ]
+
+pub parts_as : (c : Component) → (parts_ok c == 1)
+    ≡ ((places_ok c.kind c.item c.parts == 1)
+    && (((c.parts / 16 % 2 == 1) || (c.calling.count == 0) && (c.calling.value == 0))
+    && (((c.parts / 32 % 2 == 1) || (c.called.count == 0) && (c.called.value == 0))
+    && ((c.parts / 64 % 2 == 1) || (c.duration == 0)))))
+unfolding parts_ok
+parts_as c = simp (both_as, unnamed_as, untimed_as)

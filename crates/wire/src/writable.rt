@@ -1,8 +1,8 @@
 // What can be written: a component whose fields are all in range; and the first of them that is not.
 #![tactic(auto, unfolding(text::specs::Choose::if_so, text::specs::Choose::if_lt, text::specs::Choose::if_eq, crate::specs::Writable::range_ok, crate::specs::Writable::both_ok, crate::specs::Writable::item_ok, crate::specs::Writable::argument_ok, crate::specs::Writable::result_ok, crate::specs::Writable::places_ok, crate::specs::Writable::unnamed_ok, crate::specs::Writable::untimed_ok, crate::specs::Writable::parts_ok, crate::specs::Writable::number_ok, crate::specs::Writable::duration_ok, crate::specs::Writable::id_ok))]
 
-ghost use Rattle.std.specs.Prelude.{◌≡◌, ◌==◌, ◌||◌, not, ◌+◌, ◌/◌, ◌%◌};
-ghost use Rattle.wire.specs.Writable.{kind_ok, item_ok, argument_ok, result_ok, places_ok, unnamed_ok, untimed_ok, parts_ok, number_ok, duration_ok, id_ok, ordinal, bad_of};
+ghost use Rattle.std.specs.Prelude.{◌≡◌, ◌==◌, ◌||◌, ◌&&◌, not, ◌+◌, ◌/◌, ◌%◌};
+ghost use Rattle.wire.specs.Writable.{kind_ok, item_ok, argument_ok, result_ok, places_ok, parts_ok, number_ok, duration_ok, id_ok, ordinal, bad_of};
 
 use crate::{Component, Number};
 
@@ -58,25 +58,26 @@ fn places_ok(kind: u8, item: u8, p: u8) -> bool
     }
 }
 
-fn unnamed_ok(named: u8, n: Number) -> bool
-    ensures { result ≡ (unnamed_ok named n == 1) }
+fn unnamed_ok(named: bool, n: Number) -> bool
+    ensures { result ≡ (named || (n.count == 0) && (n.value == 0)) }
 {
-    named == 1 || n.count == 0 && n.value == 0
+    named || n.count == 0 && n.value == 0
 }
 
-fn untimed_ok(named: u8, t: u32) -> bool
-    ensures { result ≡ (untimed_ok named t == 1) }
+fn untimed_ok(named: bool, t: u32) -> bool
+    ensures { result ≡ (named || (t == 0)) }
 {
-    named == 1 || t == 0
+    named || t == 0
 }
 
+#[tactic(auto, using(crate::proofs::Fields::parts_as))]
 fn parts_ok(c: Component) -> bool
     ensures { result ≡ (parts_ok c == 1) }
 {
     places_ok(c.kind, c.item, c.parts)
-        && unnamed_ok(c.parts / 16 % 2, c.calling)
-        && unnamed_ok(c.parts / 32 % 2, c.called)
-        && untimed_ok(c.parts / 64 % 2, c.duration)
+        && unnamed_ok(c.parts / 16 % 2 == 1, c.calling)
+        && unnamed_ok(c.parts / 32 % 2 == 1, c.called)
+        && untimed_ok(c.parts / 64 % 2 == 1, c.duration)
 }
 
 // ---- numbers, Duration, identifier: what the parts do not name is not looked at
