@@ -1,13 +1,14 @@
 -- What the writer's functions put is what its definitions say: bytes of a number, fields, records; and what is answered and left.
 -- Assumes nothing.
 use Rattle.std.proofs.Common.{◌≡◌, ℕ, ◌+◌, ◌-◌, ◌*◌, ◌/◌, ◌%◌, ◌^◌, ◌<◌, ◌≤◌, Bool, true, false, List, [], ◌∷◌, ◌++◌, length, take, drop, set, sym, refl, ap, ◌∙◌, subst, append_assoc, append-nil, zero-add, add-one, arith, length-append, length-drop, take-append-drop, drop_of_length-le, length-take-le, take_all, drop-drop}
+use Rattle.std.specs.Prelude.{Some, None}
 use lib.Seq.{sets, sets-eq, drop-append_seam}
 use borrow.Rule.Slice.PartMut.{mid_of, put_mid}
 use Rattle.text.specs.Text.{Put}
 use Rattle.text.specs.Choose.{if_lt, if_eq, if_so}
 use Rattle.text.proofs.Cases.{yes_so, no_so, yes_lt, no_lt, both_so, both_lt}
 use Rattle.text.proofs.Laws.{put_none, put_in, put_after, put_as}
-use Rattle.rows.specs.Valid.{event_ok, bad_field_of}
+use Rattle.rows.specs.Valid.{event_ok, ordinal, bad_field_of}
 use Rattle.rows.specs.declared.Component.{Component}
 use Rattle.rows.specs.declared.Event.{Event}
 use Rattle.rows.specs.declared.Event.TheVariants.{Opening, Ask, Received, FromAccess, Expiry, Time}
@@ -15,7 +16,7 @@ use Rattle.rows.specs.declared.Message.{Message}
 use Rattle.rows.specs.declared.Nature.{Nature}
 use Rattle.rows.specs.declared.Nature.TheVariants.{National, International}
 use Rattle.rows.specs.declared.Number.{Number}
-use Rattle.rows.proofs.Ranges.{none_bad_exactly}
+use Rattle.rows.proofs.Ranges.{none_bad_exactly, none_told, some_told}
 use Rattle.files.specs.Bodies.{count_byte, component_of, code_of, item_of, number_values, front_values, carried_values, kind_of, fields_of}
 use Rattle.files.specs.Bodies.{values_of, head_of, record_of, slot_head, slotted_of, entry_of, plain_at}
 use Rattle.files.specs.Bytes.{le_of, part}
@@ -226,7 +227,7 @@ sizes = (refl, refl, refl, refl, refl)
 pub message_sized : (n parts : ℕ) → n ≡ 2 + length_of 3 parts → n ≡ 2 + length_with (message_fields parts)
 message_sized n parts e = e ∙ ap (λ (k : ℕ). 2 + k) (length_three parts)
 
--- ---- what is answered and left. t: the ordinal of the first field out of range, 0 where there is none; n: the record's length, as it was
+-- ---- what is answered and left. t: the ordinal of the first field out of range, where there is one; n: the record's length, as it was
 -- measured
 
 module _ (e : Event) (out : List ℕ) where
@@ -234,15 +235,16 @@ module _ (e : Event) (out : List ℕ) where
   some_bad true h i = absurd (i ((none_bad_exactly e).1 h))
   some_bad false h i = h
 
-  pub bad_as : (t : ℕ) → t ≡ bad_field_of e → (t ≡ 0 → ⊥) → (BadField t ≡ written_of e out) × (out ≡ left_of e out)
+  pub bad_as : (t : ℕ) → Some t ≡ ordinal (bad_field_of e) → (BadField t ≡ written_of e out) × (out ≡ left_of e out)
   unfolding written_of left_of
-  bad_as t g h =
-      let b = some_bad (event_ok e) refl (λ z. h (g ∙ z)) in
-      (no_so _ _ _ _ b (ap BadField g), no_so _ _ _ _ b refl)
+  bad_as t h =
+      let s = some_told _ _ h in
+      let b = some_bad (event_ok e) refl s.1 in
+      (no_so _ _ _ _ b (ap BadField s.0), no_so _ _ _ _ b refl)
 
-  module _ (t : ℕ) (n : ℕ) (g : t ≡ bad_field_of e) (h : t ≡ 0) (l : n ≡ 2 + length_with (fields_of e)) where
+  module _ (n : ℕ) (h : None ≡ ordinal (bad_field_of e)) (l : n ≡ 2 + length_with (fields_of e)) where
     good : event_ok e ≡ true
-    good = (none_bad_exactly e).0 (sym g ∙ h)
+    good = (none_bad_exactly e).0 (none_told _ h)
 
     size : n ≡ length (record_of e)
     size = l ∙ sym (record_length e)

@@ -235,55 +235,55 @@ fn write_opening(role: u8, flags: u8, own: Number, out: &mut [u8]) -> Written
     ensures { (result ≡ written_of (Opening role flags own) out.old)
         × (out.new ≡ left_of (Opening role flags own) out.old) }
 {
-    let field = rows::opening_bad(role, flags, own);
-    if field == 0 {
-        if out.len() < 15 {
-            return Written::NoRoom;
-        }
-        return Written::Whole(put_opening(out, role, flags, own));
+    match rows::opening_bad(role, flags, own) {
+        Some(field) => Written::BadField(field),
+        None => if out.len() < 15 {
+            Written::NoRoom
+        } else {
+            Written::Whole(put_opening(out, role, flags, own))
+        },
     }
-    Written::BadField(field)
 }
 
 fn write_ask(item: u8, called: Number, out: &mut [u8]) -> Written
     ensures { (result ≡ written_of (Ask item called) out.old)
         × (out.new ≡ left_of (Ask item called) out.old) }
 {
-    let field = rows::ask_bad(item, called);
-    if field == 0 {
-        if out.len() < 14 {
-            return Written::NoRoom;
-        }
-        return Written::Whole(put_ask(out, item, called));
+    match rows::ask_bad(item, called) {
+        Some(field) => Written::BadField(field),
+        None => if out.len() < 14 {
+            Written::NoRoom
+        } else {
+            Written::Whole(put_ask(out, item, called))
+        },
     }
-    Written::BadField(field)
 }
 
 fn write_message(m: Message, out: &mut [u8]) -> Written
     ensures { (result ≡ written_of (Received m) out.old) × (out.new ≡ left_of (Received m) out.old) }
 {
-    let field = rows::message_bad(m);
-    if field == 0 {
-        if out.len() < message_size(m.parts) {
-            return Written::NoRoom;
-        }
-        return Written::Whole(put_message(out, m));
+    match rows::message_bad(m) {
+        Some(field) => Written::BadField(field),
+        None => if out.len() < message_size(m.parts) {
+            Written::NoRoom
+        } else {
+            Written::Whole(put_message(out, m))
+        },
     }
-    Written::BadField(field)
 }
 
 fn write_access(item: u8, error: u8, out: &mut [u8]) -> Written
     ensures { (result ≡ written_of (FromAccess item error) out.old)
         × (out.new ≡ left_of (FromAccess item error) out.old) }
 {
-    let field = rows::access_bad(item, error);
-    if field == 0 {
-        if out.len() < 6 {
-            return Written::NoRoom;
-        }
-        return Written::Whole(put_access(out, item, error));
+    match rows::access_bad(item, error) {
+        Some(field) => Written::BadField(field),
+        None => if out.len() < 6 {
+            Written::NoRoom
+        } else {
+            Written::Whole(put_access(out, item, error))
+        },
     }
-    Written::BadField(field)
 }
 
 fn write_expiry(out: &mut [u8]) -> Written
@@ -298,14 +298,14 @@ fn write_expiry(out: &mut [u8]) -> Written
 fn write_time(seconds: u32, out: &mut [u8]) -> Written
     ensures { (result ≡ written_of (Time seconds) out.old) × (out.new ≡ left_of (Time seconds) out.old) }
 {
-    let field = rows::time_bad(seconds);
-    if field == 0 {
-        if out.len() < 8 {
-            return Written::NoRoom;
-        }
-        return Written::Whole(put_time(out, seconds));
+    match rows::time_bad(seconds) {
+        Some(field) => Written::BadField(field),
+        None => if out.len() < 8 {
+            Written::NoRoom
+        } else {
+            Written::Whole(put_time(out, seconds))
+        },
     }
-    Written::BadField(field)
 }
 
 // ---- For hosts
