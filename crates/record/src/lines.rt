@@ -4,7 +4,7 @@ ghost use Rattle.std.specs.Prelude.{◌+◌, ◌^◌, ◌<◌, ◌≤◌, length
 use crate::Parsed;
 use crate::guess::event_of;
 use crate::pieces::{find, is, numeric, start, word};
-use files::{Where, Written};
+use files::{Unwritten, Where};
 use rows::Event;
 
 // What comes of a line: 0, 3 and 8 are the numbers that document 01 gives back; the others are for what is no event.
@@ -90,12 +90,12 @@ fn words_from(line: &[u8]) -> usize
 }
 
 // What came of a record that was to be written at `to`, with so much room after it.
-fn written(w: Written, to: usize, room: usize) -> Step
+fn written(answer: Result<usize, Unwritten>, to: usize, room: usize) -> Step
     requires { to + room < 2 ^ 64 }
     ensures { result.to ≤ to + room }
 {
-    match w {
-        Written::Whole(n) => {
+    match answer {
+        Ok(n) => {
             if n <= room {
                 return Step {
                     number: DONE,
@@ -109,12 +109,12 @@ fn written(w: Written, to: usize, room: usize) -> Step
                 to,
             }
         }
-        Written::BadField(field) => Step {
+        Err(Unwritten::BadField(field)) => Step {
             number: BAD_FIELD,
             field,
             to,
         },
-        Written::NoRoom => Step {
+        Err(Unwritten::NoRoom) => Step {
             number: TOO_LONG,
             field: 0,
             to,
@@ -123,7 +123,7 @@ fn written(w: Written, to: usize, room: usize) -> Step
 }
 
 // A plain record, or one of kind 7.
-fn write(w: Where, e: Event, out: &mut [u8]) -> Written {
+fn write(w: Where, e: Event, out: &mut [u8]) -> Result<usize, Unwritten> {
     match w {
         Where::Plain => files::write_event(e, out),
         Where::Slot(slot) => files::write_at_slot(slot, e, out),
