@@ -8,7 +8,7 @@ use lib.Dec.{eqb}
 use lib.ListN.{get_or}
 use Rattle.std.proofs.Common.{Bool, true, false, ◌==◌, ◌&&◌, ◌||◌, not, Option, Some, None}
 use Rattle.text.specs.Choose.{if_eq, if_so}
-use Rattle.text.proofs.Cases.{yes_eq, no_eq, both_eq}
+use Rattle.text.proofs.Cases.{yes_eq, no_eq, both_eq, both_so}
 use Rattle.wire.specs.Writable.{both_ok, kind_ok, item_ok, places_ok, unnamed_ok, untimed_ok, parts_ok, number_ok, duration_ok, id_ok, field_if, fields_of, bad_from, ordinal, bad_of, writable_of}
 use Rattle.wire.specs.declared.Component.{Component}
 use Rattle.wire.specs.declared.Number.{Number}
@@ -175,6 +175,20 @@ module _ (c : Component) where
       (named_as (4 + i) _ _ j _ (omega arith)
       (named_as (4 + i + j) _ _ l _ (omega arith)
       (head_as (4 + i + j + l) _ _ _ (sym (none_left _)))))))))
+
+so_most : (t : Bool) (x y n : ℕ) → x ≤ n → y ≤ n → if_so t x y ≤ n
+so_most t x y n = both_so t (λ (z : ℕ). x ≤ n → y ≤ n → z ≤ n) x y (λ _ h _. h) (λ _ _ h. h)
+
+-- there are seven fields at most
+pub bad_most : (c : Component) → bad_of c ≤ 7
+bad_most c =
+    rw (fields_as c)
+    (so_most _ _ _ 7
+    (so_most _ _ _ 7
+    (so_most _ _ _ 7
+    (so_most _ _ _ 7
+    (so_most _ _ _ 7
+    (so_most _ _ _ 7 (so_most _ _ _ 7 (omega arith) (omega arith)) (omega arith)) (omega arith)) (omega arith)) (omega arith)) (omega arith)) (omega arith))
 
 -- ---- as it is answered
 
