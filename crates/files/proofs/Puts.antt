@@ -1,6 +1,6 @@
 -- What the writer's functions put is what its definitions say: bytes of a number, fields, records; and what is answered and left.
 -- Assumes nothing.
-use Rattle.std.proofs.Common.{◌≡◌, ℕ, Some, None, Result, Ok, Err, ◌+◌, ◌-◌, ◌*◌, ◌/◌, ◌%◌, ◌^◌, ◌<◌, ◌≤◌, Bool, true, false, eqb, List, [], ◌∷◌, ◌++◌, length, take, drop, set, sym, refl, ap, ◌∙◌, subst, append_assoc, append-nil, zero-add, add-one, arith, length-append, length-drop, take-append-drop, drop_of_length-le, length-take-le, take_all, drop-drop}
+use Rattle.std.proofs.Common.{◌≡◌, ℕ, Option, Some, None, IfSome, Result, Ok, Err, ◌+◌, ◌-◌, ◌*◌, ◌/◌, ◌%◌, ◌^◌, ◌<◌, ◌≤◌, Bool, true, false, eqb, List, [], ◌∷◌, ◌++◌, length, take, drop, set, sym, refl, ap, ◌∙◌, subst, append_assoc, append-nil, zero-add, add-one, arith, length-append, length-drop, take-append-drop, drop_of_length-le, length-take-le, take_all, drop-drop}
 use lib.Seq.{sets, sets-eq, drop-append_seam}
 use borrow.Rule.Slice.PartMut.{mid_of, put_mid}
 use Rattle.text.specs.Text.{Put}
@@ -24,7 +24,8 @@ use Rattle.files.specs.Fields.{expiry_fields, time_fields}
 use Rattle.files.specs.Fields.{size_of, bytes_of}
 use Rattle.files.specs.Frames.{length_with, length_of, slotted_kind}
 use Rattle.files.specs.Write.{written_of, left_of, written_at, left_at, gives_back, slot_gives, slot_leaves, message_with}
-use Rattle.files.specs.declared.Read.{Read}
+use Rattle.files.specs.Bodies.{Reading, got, stopped}
+use Rattle.files.specs.Frames.{stop_number}
 use Rattle.files.specs.declared.Where.{Where}
 use Rattle.files.specs.declared.Where.TheVariants.{Plain, Slot}
 use Rattle.files.specs.declared.Unwritten.{Unwritten}
@@ -32,6 +33,8 @@ use Rattle.files.specs.declared.Unwritten.TheVariants.{BadField, NoRoom}
 use Rattle.files.proofs.BothWays.{record_length, record_range, slot_head_length, slotted_length}
 use Rattle.files.proofs.Records.{not_one, message_size}
 use Rattle.files.proofs.Same.{answered_of, held_of, HandedOver}
+use Rattle.std.specs.Prelude.{Option, None, Some, Ok, Err}
+use Rattle.files.specs.declared.Unreadable.{Unreadable}
 
 -- ---- the bytes of a number
 
@@ -232,49 +235,64 @@ pub sizes : (15 ≡ 2 + length_with opening_fields) × (14 ≡ 2 + length_with a
 unfolding size_of
 sizes = (refl, refl, refl, refl, refl)
 
+-- .. of whole records
+pub sized : (e : Event) (n : ℕ) → n ≡ 2 + length_with (fields_of e) → n ≡ length (record_of e)
+sized e n h = h ∙ sym (record_length e)
+
 pub message_sized : (n parts : ℕ) → n ≡ 2 + length_of 3 parts → n ≡ 2 + length_with (message_fields parts)
 message_sized n parts e = e ∙ ap (λ (k : ℕ). 2 + k) (length_three parts)
 
--- the event e that was matched: the size of its record, the room for it, and what was put
-module _ (e f : Event) (g : e ≡ f) where
-  pub size_of_event : (n : ℕ) → n ≡ 2 + length_with (fields_of f) → n ≡ length (record_of e)
-  size_of_event n h = h ∙ sym (record_length f) ∙ ap (λ (x : Event). length (record_of x)) (sym g)
+-- ---- what is answered and left. n: the record's length, as it was measured
 
-  pub room_of_event : (n : ℕ) (out : List ℕ) → n ≡ 2 + length_with (fields_of f) → length (record_of e) ≤ length out → n ≤ length out
-  room_of_event n out h l = omega (arith, size_of_event n h)
-
-  pub event_put : (l new : List ℕ) (r : ℕ) → Put l 0 (record_of f) new r → Put l 0 (record_of e) new r
-  event_put l new r p = put_as (ap record_of (sym g)) p
-
--- ---- what is answered and left. t: the ordinal of the first field out of range, where there is one; n: the record's length, as it was
--- measured
+-- what `judge` says of a field that is bad, of a record's length and of the room
+abbrev pub Judged : Option ℕ → ℕ → ℕ → Result (Unit {0}) Unwritten → Type 0
+Judged bad n room r =
+    record {
+      field : IfSome bad (λ k. r ≡ Err (BadField k));
+      narrow : bad ≡ None → room < n → r ≡ Err NoRoom;
+      good : bad ≡ None → n ≤ room → r ≡ Ok tt;
+    }
 
 module _ (e : Event) (out : List ℕ) where
   some_bad : (b : Bool) → event_ok e ≡ b → (bad_field_of e ≡ 0 → ⊥) → event_ok e ≡ false
   some_bad true h i = absurd (i ((none_bad_exactly e).1 h))
   some_bad false h i = h
 
-  pub bad_as : (t : ℕ) → Some t ≡ ordinal (bad_field_of e) → (Err (BadField t) ≡ written_of e out) × (out ≡ left_of e out)
+  -- why nothing is written, and that nothing is; or that the record is to be written
+  abbrev pub Follows : ℕ → Result (Unit {0}) Unwritten → Type 0
+  Follows n (Ok _) = (event_ok e ≡ true) × (n ≤ length out)
+  Follows n (Err why) = (Err why ≡ written_of e out) × (out ≡ left_of e out)
+
+  bad_as : (t : ℕ) → Some t ≡ ordinal (bad_field_of e) → (Err (BadField t) ≡ written_of e out) × (out ≡ left_of e out)
   unfolding written_of left_of
   bad_as t h =
       let s = some_told _ _ h in
       let b = some_bad (event_ok e) refl s.1 in
       (no_so _ _ _ _ b (ap (λ (k : ℕ). Err (BadField k)) s.0), no_so _ _ _ _ b refl)
 
-  module _ (n : ℕ) (h : None ≡ ordinal (bad_field_of e)) (size : n ≡ length (record_of e)) where
-    good : event_ok e ≡ true
-    good = (none_bad_exactly e).0 (none_told _ h)
-
-    pub narrow_as : length out < n → (Err NoRoom ≡ written_of e out) × (out ≡ left_of e out)
+  module _ (n : ℕ) (size : n ≡ length (record_of e)) where
+    narrow_as : event_ok e ≡ true → length out < n → (Err NoRoom ≡ written_of e out) × (out ≡ left_of e out)
     unfolding written_of left_of
-    narrow_as f =
+    narrow_as good f =
         let k : length out < length (record_of e) = omega (arith, size) in
         (yes_so _ _ _ _ good (yes_lt _ _ _ _ _ k refl), yes_so _ _ _ _ good (yes_lt _ _ _ _ _ k refl))
 
-    pub whole_as : (new : List ℕ) (r : ℕ) → n ≤ length out → Put out 0 (record_of e) new r
+    judged_by : (bad : Option ℕ) (r : Result (Unit {0}) Unwritten) → bad ≡ ordinal (bad_field_of e) → Judged bad n (length out) r → Follows n r
+    judged_by (Some t) r h j = subst (Follows n) (sym j.field) (bad_as t h)
+    judged_by None r h j =
+        let good : event_ok e ≡ true = (none_bad_exactly e).0 (none_told _ h) in
+        both_lt (length out) n (λ (_ : ℕ). Follows n r) 0 0 (λ l. subst (Follows n) (sym (j.narrow refl l)) (narrow_as good l))
+        (λ l. subst (Follows n) (sym (j.good refl l)) (good, l))
+
+    -- the answer of `judge` that was matched
+    pub judged_as : (bad : Option ℕ) (r s : Result (Unit {0}) Unwritten) → r ≡ s → bad ≡ ordinal (bad_field_of e)
+        → Judged bad n (length out) r → Follows n s
+    judged_as bad r s g h j = subst (Follows n) g (judged_by bad r h j)
+
+    pub whole_as : Follows n (Ok tt) → (new : List ℕ) (r : ℕ) → Put out 0 (record_of e) new r
         → (Ok r ≡ written_of e out) × (new ≡ left_of e out)
     unfolding written_of left_of
-    whole_as new r f p =
+    whole_as (good, f) new r p =
         let k : length (record_of e) ≤ length out = omega (arith, size) in
         let s : new ≡ record_of e ++ drop (length (record_of e)) out =
         p.bytes ∙ sets-eq (record_of e) out 0 (omega arith) ∙ ap (λ (m : ℕ). record_of e ++ drop m out) (zero-add (length (record_of e))) in (

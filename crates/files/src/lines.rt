@@ -1,4 +1,6 @@
 // The lines of a listing: a record's, an action's, the last.
+// Kept: each text is put by a function and no type has a Display, which could not promise `Put`: the text in a lent buffer as far as it goes,
+// and the place after all of it. So it is in messages.rt and words.rt too.
 ghost use Rattle.std.specs.Prelude.{◌≡◌, ◌+◌, ◌^◌, ◌<◌, ◌≤◌, length};
 ghost use Rattle.text.specs.Text.{Put};
 ghost use Rattle.files.specs.Lines.{phase_text, rev_text, stand_text, meters_text, slot_text, line_text, numbered_line, action_text, actions_text};
@@ -62,7 +64,11 @@ fn put_slot(out: &mut [u8], at: usize, slots: bool, slot: u32) -> usize
     ensures put { Put out.old at (slot_text slots slot) out.new result }
     ensures upper_bound { result ≤ at + 11 }
 {
-    if slots { text::put_numbered(out, at, b" ", slot) } else { at }
+    if slots {
+        text::put_numbered(out, at, b" ", slot)
+    } else {
+        at
+    }
 }
 
 // A record's line: its ordinal, its slot, its number, and the call after it.
@@ -145,5 +151,9 @@ pub(crate) fn put_record(
     ensures upper_bound { result ≤ at + longest_record }
 {
     let end = put_line(out, at, ordinal, slots, slot, o.number, o.call);
-    if o.number == APPLIED { put_actions(out, end, o) } else { end }
+    if o.number == APPLIED {
+        put_actions(out, end, o)
+    } else {
+        end
+    }
 }

@@ -49,7 +49,11 @@ pub(crate) fn put_if(out: &mut [u8], at: usize, present: bool, word: &[u8]) -> u
     ensures put { Put out.old at (if_so present word.now []) out.new result }
     ensures upper_bound { result ≤ at + length word.now }
 {
-    if present { text::put_word(out, at, word) } else { at }
+    if present {
+        text::put_word(out, at, word)
+    } else {
+        at
+    }
 }
 
 // Before the digits: what tells an international number from a national one.
@@ -90,7 +94,11 @@ fn put_digits_if(out: &mut [u8], at: usize, present: bool, word: &[u8], n: Numbe
     ensures put { Put out.old at (if_so present (with_digits word.now n) []) out.new result }
     ensures upper_bound { result ≤ at + length word.now + 256 }
 {
-    if present { put_with_digits(out, at, word, n) } else { at }
+    if present {
+        put_with_digits(out, at, word, n)
+    } else {
+        at
+    }
 }
 
 pub(crate) fn put_duration_if(out: &mut [u8], at: usize, present: bool, seconds: u32) -> usize

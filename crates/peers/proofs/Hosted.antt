@@ -8,8 +8,6 @@ use lib.ListN.{length}
 use Rattle.std.specs.Prelude.{Option, Some, None, MatchOption, Result}
 use Rattle.text.specs.Choose.{if_lt}
 use Rattle.text.proofs.Cases.{yes_eq, no_eq, both_eq, yes_lt, no_lt, both_lt}
-use Rattle.files.specs.declared.Read.{Read}
-use Rattle.files.specs.declared.Where.{Where}
 use Rattle.rows.specs.Valid.{ordinal, bad_field_of}
 use Rattle.rows.proofs.Ranges.{none_told, some_told}
 use Rattle.rows.specs.declared.Event.{Event}
@@ -30,7 +28,7 @@ use Rattle.wire.proofs.Fits.{FitsHeld, read_fits, walk_fits}
 use Rattle.wire.proofs.Places.{Placed, component_placed, parameter_most}
 use Rattle.wire.proofs.Walks.{read_on, walk_end, walk_on, good_walk, bad_refused}
 use Rattle.peers.specs.Entries.{with_rest, given, gives_of, or_none, KeptWithin, Keeps, read_gives, read_leaves}
-use Rattle.peers.specs.Entries.{in_record_told, nearest, in_record, sent_bad, send_gives, send_leaves, write_gives, write_leaves}
+use Rattle.peers.specs.Entries.{in_record_told, nearest, in_record, sent_bad, send_gives, send_leaves}
 use Rattle.peers.specs.Messages.{no_component, carried_of, sent_of}
 use Rattle.peers.proofs.Entered.{Gave, gives_bad, Reads, several_given}
 use Rattle.peers.proofs.Ranges.{fits_ranged, none_ranged}
@@ -200,23 +198,3 @@ event_other (Received m) id out h = absurd (h m refl)
 event_other (FromAccess item error) id out h = (refl, refl)
 event_other Expiry id out h = (refl, refl)
 event_other (Time seconds) id out h = (refl, refl)
-
--- what is given and left for what was read
-abbrev Writes : Read → ℕ → List ℕ → ℕ → List ℕ → Type 0
-Writes x id out r new = (r ≡ write_gives x id out) × (new ≡ write_leaves x id out)
-
-module _ (f x : Read) (id : ℕ) (out : List ℕ) (e : f ≡ x) where
-  pub entry_none : f ≡ Read.End → Writes x id out 5 out
-  unfolding write_gives write_leaves
-  entry_none g = subst (λ (y : Read). Writes y id out 5 out) (sym g ∙ e) (refl, refl)
-
-  pub entry_stop : (n : ℕ) → f ≡ Read.Stop n → Writes x id out (with_rest n 0) out
-  unfolding write_gives write_leaves
-  entry_stop n g = subst (λ (y : Read). Writes y id out (with_rest n 0) out) (sym g ∙ e) (omega arith, refl)
-
-  pub entry_got : (w : Where) (ev : Event) (next i r : ℕ) (new : List ℕ) → f ≡ Read.Got w ev next → i ≡ id
-      → Sends ev i out r new → Writes x id out r new
-  unfolding write_gives write_leaves
-  entry_got w ev next i r new g h k =
-      subst (λ (y : Read). Writes y id out r new) (sym g ∙ e)
-      (subst (λ (j : ℕ). Sends ev j out r new) h k)

@@ -15,12 +15,12 @@ pub use messages::{alone, carried, heard, received, sent, write_sent};
 pub use parameters::{rev_read_parameter, rev_write_parameter};
 
 // Why nothing is written for a host in C: of a record's fields the one with this ordinal is the first out of range; no parameter carries a
-// record of this kind; there is too little room; the record cannot be read, by this number; or the parameter cannot.
+// record of this kind; there is too little room; the record cannot be read; or the parameter cannot.
 #[derive(Clone, Copy, PartialEq, Eq)]
 pub enum Refusal {
     BadField(u16),
     OtherKind,
     NoRoom,
-    BadRecord(u8),
+    BadRecord(files::Unreadable),
     BadParameter(wire::Refusal),
 }

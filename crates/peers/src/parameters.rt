@@ -13,11 +13,9 @@ use crate::Refusal;
 use crate::entries::{keep, write_none};
 use crate::messages::carried;
 use crate::refusals::{given, in_record};
-use files::Read;
+use files::Unreadable;
 use rows::{Event, Message};
 use wire::Component;
-
-const CUT_SHORT: u8 = 5;
 
 // ---- from a parameter to entries
 
@@ -93,15 +91,16 @@ fn write_event(e: Event, id: u16, out: &mut [u8]) -> Result<usize, Refusal>
     }
 }
 
+#[tactic(auto, unfolding(crate::specs::Entries::write_gives, crate::specs::Entries::write_leaves))]
 fn write(entry: &[u8], out: &mut [u8]) -> Result<usize, Refusal>
     ensures { (given result ≡ write_gives (record_at entry.now) (identifier_at entry.now) out.old)
         × (out.new ≡ write_leaves (record_at entry.now) (identifier_at entry.now) out.old)
         × KeptWithin result }
 {
     match files::plain_at(entry, 2) {
-        Read::End => Err(Refusal::BadRecord(CUT_SHORT)),
-        Read::Stop(n) => Err(Refusal::BadRecord(n)),
-        Read::Got(_, e, _) => write_event(e, identifier(entry), out),
+        None => Err(Refusal::BadRecord(Unreadable::CutShort)),
+        Some(Err(stop)) => Err(Refusal::BadRecord(stop)),
+        Some(Ok(record)) => write_event(record.event, identifier(entry), out),
     }
 }
 

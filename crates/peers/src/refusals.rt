@@ -40,7 +40,7 @@ impl Refusal {
         match self {
             Refusal::BadField(_) | Refusal::OtherKind => 3,
             Refusal::NoRoom => 8,
-            Refusal::BadRecord(n) => n,
+            Refusal::BadRecord(stop) => stop.number(),
             Refusal::BadParameter(r) => r.number,
         }
     }
