@@ -28,12 +28,13 @@ use Rattle.wire.proofs.Fits.{FitsAll, FitsHeld}
 use Rattle.wire.proofs.Places.{Placed, component_placed}
 use Rattle.wire.proofs.Walks.{read_on, walk_end, walk_on}
 use Rattle.peers.specs.Entries.{with_rest, gives_of, entry_of, or_none, entries_of, carrier_bad, first_bad, read_gives, read_leaves}
-use Rattle.peers.specs.Entries.{ended_of, kept_of, Keeps, KeptWithin}
+use Rattle.peers.specs.Entries.{given, ended_of, kept_of, Keeps, KeptWithin}
 use Rattle.peers.specs.Messages.{heard_of, received_of, no_component}
-use Rattle.peers.specs.declared.Kept.{Kept}
+use Rattle.peers.specs.declared.Refusal.{Refusal}
+use Rattle.peers.specs.declared.Refusal.TheVariants.{BadField, NoRoom, BadParameter}
 use Rattle.peers.proofs.Ranges.{fits_ranged, none_ranged, carrier_small}
 use Rattle.wire.specs.Answers.{Answer, refusal}
-use Rattle.std.specs.Prelude.{Ok, Err}
+use Rattle.std.specs.Prelude.{Result, Ok, Err}
 
 -- ---- sizes
 
@@ -163,7 +164,7 @@ unfolding or_none
 fits_first_bad message cause [] f = ranged_all message cause no_component [] (none_ranged message cause) tt
 fits_first_bad message cause (c ∷ cs) (f, fs) = ranged_all message cause c cs (fits_ranged message cause c f) (all_carried message cause cs fs)
 
--- ---- one component
+-- ---- what a parameter says
 
 -- what is given and left for what a parameter says
 abbrev pub Reads : ℕ → ℕ → Parameter → List ℕ → ℕ → List ℕ → Type 0
@@ -175,88 +176,39 @@ pub reads_all : (message cause : ℕ) (c : Component) (cs : List Component) (out
 unfolding read_gives read_leaves or_none
 reads_all message cause c cs out r new g = g
 
-module _ (message cause : ℕ) (c : Component) (out : List ℕ) (f : Carried message cause c) (bad : ℕ) (k : bad ≡ carrier_bad message cause) where
-  ranged_one : bad ≡ first_bad message cause (c ∷ [])
-  ranged_one = k ∙ sym (ranged_all message cause c [] f tt)
-
-  pub one_bad : (r : ℕ) → (bad ≡ 0 → ⊥) → r ≡ with_rest 3 bad → Reads message cause (holds (c ∷ [])) out r out
-  one_bad r h g = reads_all message cause c [] out r out (gives_bad _ _ out r (λ z. h (ranged_one ∙ z)) (g ∙ ap (with_rest 3) ranged_one))
-
-  module _ (m : Message) (e : m ≡ heard_of message cause c) (n : ℕ) (h : bad ≡ 0) (g : n ≡ 2 + length (record_of (Received m))) where
-    entries-one : entry_of c.id (Received m) ≡ entries_of message cause (c ∷ [])
-    unfolding entries_of received_of
-    entries-one = ap (λ (x : Message). entry_of c.id (Received x)) e ∙ sym (append-nil _)
-
-    one-length : n ≡ length (entries_of message cause (c ∷ []))
-    one-length = g ∙ sym (entry_length c.id (Received m)) ∙ ap length entries-one
-
-    pub one_full : length out < n → Reads message cause (holds (c ∷ [])) out 8 out
-    one_full l = reads_all message cause c [] out 8 out (gives_full _ _ out n (sym ranged_one ∙ h) one-length l)
-
-    pub one_whole : (r at : ℕ) (new : List ℕ) → n ≤ length out → r ≡ with_rest 0 n → Put out 0 (entry_of c.id (Received m)) new at
-        → Reads message cause (holds (c ∷ [])) out r new
-    one_whole r at new l q p =
-        reads_all message cause c [] out r new
-        (gives_whole _ _ out n (sym ranged_one ∙ h) one-length r at new l q (put_as entries-one p))
-
 -- ---- several: the entry of one is put once those that follow it stand in the buffer
 
-abbrev as_rest : Kept → ℕ
-as_rest (Kept.Refused n rest) = with_rest n rest
-as_rest (Kept.All to) = with_rest 0 to
-
-abbrev is_all : Kept → ℕ
-is_all (Kept.Refused n rest) = 0
-is_all (Kept.All to) = 1
-
-kept_differ : (n rest to : ℕ) → Kept.Refused n rest ≡ Kept.All to → ⊥
-kept_differ n rest to e = let z : ◌≡◌ {A = ℕ} 0 1 = ap is_all e in omega arith
-
-kept_nothing : (k : Kept) (old : List ℕ) (from : ℕ) → old ≡ kept_of k old from []
+kept_nothing : (k : Result ℕ Refusal) (old : List ℕ) (from : ℕ) → old ≡ kept_of k old from []
 unfolding kept_of
-kept_nothing (Kept.Refused n rest) old from = refl
-kept_nothing (Kept.All to) old from = refl
+kept_nothing (Err r) old from = refl
+kept_nothing (Ok to) old from = refl
 
-kept_length : (k : Kept) (old : List ℕ) (from : ℕ) (t : List ℕ) → length (kept_of k old from t) ≡ length old
+kept_length : (k : Result ℕ Refusal) (old : List ℕ) (from : ℕ) (t : List ℕ) → length (kept_of k old from t) ≡ length old
 unfolding kept_of
-kept_length (Kept.Refused n rest) old from t = refl
-kept_length (Kept.All to) old from t = length-sets old from t
+kept_length (Err r) old from t = refl
+kept_length (Ok to) old from t = length-sets old from t
 
-keeps_length : (message cause : ℕ) (p : Parameter) (old : List ℕ) (from : ℕ) (k : Kept) (new : List ℕ) → Keeps message cause p old from k new
+keeps_length : (message cause : ℕ) (p : Parameter) (old : List ℕ) (from : ℕ) (k : Result ℕ Refusal) (new : List ℕ) → Keeps message cause p old from k new
     → length new ≡ length old
 unfolding Keeps
 keeps_length message cause (refused n place) old from k new (_, e) = ap length e
 keeps_length message cause (holds cs) old from k new (_, e) = ap length e ∙ kept_length k old from (entries_of message cause cs)
 
-module _ (bad b : ℕ) (room to : ℕ) (e : b ≡ bad) where
-  pub ended_bad : (b ≡ 0 → ⊥) → Kept.Refused 3 b ≡ ended_of bad room to
-  unfolding ended_of
-  ended_bad h = no_eq _ _ _ _ _ (λ z. h (e ∙ z)) (ap (Kept.Refused 3) e)
-
-  module _ (h : b ≡ 0) where
-    pub ended_full : room < to → Kept.Refused 8 0 ≡ ended_of bad room to
-    unfolding ended_of
-    ended_full g = yes_eq _ _ _ _ _ (sym e ∙ h) (yes_lt _ _ _ _ _ g refl)
-
-    pub ended_good : to ≤ room → Kept.All to ≡ ended_of bad room to
-    unfolding ended_of
-    ended_good g = yes_eq _ _ _ _ _ (sym e ∙ h) (no_lt _ _ _ _ _ g refl)
-
 -- where the entries end they have room
-ended_all : (bad room to end : ℕ) → Kept.All end ≡ ended_of bad room to → to ≤ room
+pub ended_all : (bad room to end : ℕ) → Ok end ≡ ended_of bad room to → (to ≤ room) × (end ≡ to)
 unfolding ended_of
 ended_all bad room to end =
-    both_eq bad 0 (λ (z : Kept). Kept.All end ≡ z → to ≤ room) _ _
-    (λ _. both_lt room to (λ (z : Kept). Kept.All end ≡ z → to ≤ room) _ _ (λ _ e. absurd (kept_differ _ _ _ (sym e))) (λ h _. h))
-    (λ _ e. absurd (kept_differ _ _ _ (sym e)))
+    both_eq bad 0 (λ (z : Result ℕ Refusal). Ok end ≡ z → (to ≤ room) × (end ≡ to)) _ _
+    (λ _. both_lt room to (λ (z : Result ℕ Refusal). Ok end ≡ z → (to ≤ room) × (end ≡ to)) _ _ (λ _ e. cc) (λ h e. (h, cc)))
+    (λ _ e. cc)
 
 ended_within : (bad room to : ℕ) → bad ≤ 257 → to ≤ 8481 → KeptWithin (ended_of bad room to)
-unfolding ended_of KeptWithin
+unfolding ended_of
 ended_within bad room to g h =
     both_eq bad 0 KeptWithin _ _ (λ _. both_lt room to KeptWithin _ _ (λ _. omega arith) (λ _. h)) (λ _. g)
 
 -- an entry before those of p, which begin where it ends
-module _ (message cause : ℕ) (c : Component) (p : Parameter) (old new : List ℕ) (to from : ℕ) (k : Kept) (m : Message) (g : m ≡ heard_of message cause c)
+module _ (message cause : ℕ) (c : Component) (p : Parameter) (old new : List ℕ) (to from : ℕ) (k : Result ℕ Refusal) (m : Message) (g : m ≡ heard_of message cause c)
     (z : from ≡ to + (2 + length (record_of (Received m)))) (w : Keeps message cause p old from k new) where
   own : entry_of c.id (Received m) ≡ entry_of c.id (received_of message cause c)
   unfolding received_of
@@ -271,41 +223,69 @@ module _ (message cause : ℕ) (c : Component) (p : Parameter) (old new : List �
       let l = length-append (entry_of c.id (received_of message cause c)) (entries_of message cause cs) in
       omega (arith, begin)
 
-  pub before_refused : (n rest : ℕ) → k ≡ Kept.Refused n rest → Keeps message cause (before c p) old to (Kept.Refused n rest) new
+  pub before_refused : (r : Refusal) → k ≡ Err r → Keeps message cause (before c p) old to (Err r) new
   unfolding before kept_of Keeps
-  before_refused n rest f = by p w
+  before_refused r f = by p w
     where
-      by : (q : Parameter) → Keeps message cause q old from k new → Keeps message cause (before c q) old to (Kept.Refused n rest) new
+      by : (q : Parameter) → Keeps message cause q old from k new → Keeps message cause (before c q) old to (Err r) new
       by (refused x place) (e, d) = (sym f ∙ e, d)
       by (holds cs) (e, d) =
-          (sym f ∙ e ∙ ap (ended_of (carrier_bad message cause) (length old)) (end_same cs), d ∙ ap (λ (x : Kept). kept_of x old from (entries_of message cause cs)) f)
+          (sym f ∙ e ∙ ap (ended_of (carrier_bad message cause) (length old)) (end_same cs), d ∙ ap (λ (x : Result ℕ Refusal). kept_of x old from (entries_of message cause cs)) f)
 
-  pub before_room : (end : ℕ) → k ≡ Kept.All end → to + (2 + length (record_of (Received m))) ≤ length new
+  pub before_room : (end : ℕ) → k ≡ Ok end → to + (2 + length (record_of (Received m))) ≤ length new
   unfolding Keeps
   before_room end f = by p w
     where
       by : (q : Parameter) → Keeps message cause q old from k new → to + (2 + length (record_of (Received m))) ≤ length new
-      by (refused x place) (e, d) = absurd (kept_differ _ _ _ (sym e ∙ f))
+      by (refused x place) (e, d) = cc
       by (holds cs) (e, d) =
-          let r = ended_all _ _ _ _ (sym f ∙ e) in
+          let h = (ended_all _ _ _ _ (sym f ∙ e)).0 in
           let l = keeps_length message cause (holds cs) old from k new (e, d) in
           omega arith
 
-  pub before_all : (end after : ℕ) (last : List ℕ) → k ≡ Kept.All end → Put new to (entry_of c.id (Received m)) last after
-      → Keeps message cause (before c p) old to (Kept.All end) last
+  pub before_all : (end after : ℕ) (last : List ℕ) → k ≡ Ok end → Put new to (entry_of c.id (Received m)) last after
+      → Keeps message cause (before c p) old to (Ok end) last
   unfolding before kept_of entries_of Keeps
   before_all end after last f q = by p w
     where
-      by : (x : Parameter) → Keeps message cause x old from k new → Keeps message cause (before c x) old to (Kept.All end) last
-      by (refused n place) (e, d) = absurd (kept_differ _ _ _ (sym e ∙ f))
+      by : (x : Parameter) → Keeps message cause x old from k new → Keeps message cause (before c x) old to (Ok end) last
+      by (refused n place) (e, d) = cc
       by (holds cs) (e, d) =
           let b : Put old from (entries_of message cause cs) new (from + length (entries_of message cause cs)) =
-          record { bytes = d ∙ ap (λ (x : Kept). kept_of x old from (entries_of message cause cs)) f; place = refl } in
+          record { bytes = d ∙ ap (λ (x : Result ℕ Refusal). kept_of x old from (entries_of message cause cs)) f; place = refl } in
           (sym f ∙ e ∙ ap (ended_of (carrier_bad message cause) (length old)) (end_same cs), (put_before begin (put_as own q) b).bytes)
+
+pub ended_kept : (message cause room to : ℕ) (k : Result ℕ Refusal) → to ≤ 8481 → k ≡ ended_of (carrier_bad message cause) room to → KeptWithin k
+ended_kept message cause room to k h e =
+    subst KeptWithin (sym e) (ended_within (carrier_bad message cause) room to (omega (arith, carrier_small message cause)) h)
+
+-- one entry, of which all were read
+alone_text : (message cause : ℕ) (c : Component) (m : Message) → m ≡ heard_of message cause c
+    → entry_of c.id (Received m) ≡ entries_of message cause (c ∷ [])
+unfolding entries_of received_of
+alone_text message cause c m e = ap (λ (x : Message). entry_of c.id (Received x)) e ∙ sym (append-nil _)
+
+pub alone_length : (message cause : ℕ) (c : Component) (m : Message) (n : ℕ) → m ≡ heard_of message cause c
+    → n ≡ 2 + length (record_of (Received m)) → n ≡ length (entries_of message cause (c ∷ []))
+alone_length message cause c m n e g = g ∙ sym (entry_length c.id (Received m)) ∙ ap length (alone_text message cause c m e)
+
+pub alone_refused : (message cause : ℕ) (c : Component) (old : List ℕ) (n : ℕ) (r : Refusal) → n ≡ length (entries_of message cause (c ∷ []))
+    → Err r ≡ ended_of (carrier_bad message cause) (length old) n → Keeps message cause (holds (c ∷ [])) old 0 (Err r) old
+unfolding Keeps kept_of
+alone_refused message cause c old n r e f = (f ∙ ap (ended_of (carrier_bad message cause) (length old)) (e ∙ sym (zero-add _)), refl)
+
+pub alone_all : (message cause : ℕ) (c : Component) (m : Message) (old new : List ℕ) (n end at : ℕ) → m ≡ heard_of message cause c
+    → n ≡ 2 + length (record_of (Received m)) → Ok end ≡ ended_of (carrier_bad message cause) (length old) n → Put old 0 (entry_of c.id (Received m)) new at
+    → Keeps message cause (holds (c ∷ [])) old 0 (Ok end) new
+unfolding Keeps kept_of
+alone_all message cause c m old new n end at g z f p = (
+  f ∙ ap (ended_of (carrier_bad message cause) (length old)) (alone_length message cause c m n g z ∙ sym (zero-add _)),
+  (put_as (alone_text message cause c m g) p).bytes,
+)
 
 -- the components of s from a place on
 module _ (s : List ℕ) (at message cause : ℕ) (old : List ℕ) (to : ℕ) where
-  pub keep_end : (k : Kept) → length s ≤ at → at ≤ length s → length s ≤ 257 → to ≤ 33 * at → k ≡ ended_of (carrier_bad message cause) (length old) to
+  pub keep_end : (k : Result ℕ Refusal) → length s ≤ at → at ≤ length s → length s ≤ 257 → to ≤ 33 * at → k ≡ ended_of (carrier_bad message cause) (length old) to
       → Keeps message cause (walk_of s at) old to k old × KeptWithin k
   unfolding entries_of Keeps
   keep_end k h near few little e =
@@ -324,11 +304,11 @@ module _ (s : List ℕ) (at message cause : ℕ) (old : List ℕ) (to : ℕ) whe
     placed = subst (Placed (length s)) (sym e) (component_placed s at (omega arith))
 
     pub keep_refused : (n place : ℕ) → length s ≤ 257 → a ≡ Err (refusal n place)
-        → Keeps message cause (walk_of s at) old to (Kept.Refused n place) old × KeptWithin (Kept.Refused n place)
-    unfolding onward Keeps KeptWithin
+        → Keeps message cause (walk_of s at) old to (Err (BadParameter (refusal n place))) old × KeptWithin (Err (BadParameter (refusal n place)))
+    unfolding onward Keeps
     keep_refused n place few f =
         let l : place ≤ length s = subst (Placed (length s)) f placed in (
-          subst (λ (p : Parameter). Keeps message cause p old to (Kept.Refused n place) old) (sym (on ∙ ap (λ (x : Answer). onward x (walk_of s)) f)) (refl, refl),
+          subst (λ (p : Parameter). Keeps message cause p old to (Err (BadParameter (refusal n place))) old) (sym (on ∙ ap (λ (x : Answer). onward x (walk_of s)) f)) (refl, refl),
           omega arith,
         )
 
@@ -343,42 +323,34 @@ module _ (s : List ℕ) (at message cause : ℕ) (old : List ℕ) (to : ℕ) whe
       unfolding onward
       step = sym (on ∙ ap (λ (x : Answer). onward x (walk_of s)) f)
 
-      pub keep_before : (k : Kept) (last : List ℕ) → Keeps message cause (before c (walk_of s next)) old to k last → Keeps message cause (walk_of s at) old to k last
+      pub keep_before : (k : Result ℕ Refusal) (last : List ℕ) → Keeps message cause (before c (walk_of s next)) old to k last → Keeps message cause (walk_of s at) old to k last
       keep_before k last w = subst (λ (p : Parameter). Keeps message cause p old to k last) step w
 
-pub within_as : (k x : Kept) → k ≡ x → KeptWithin k → KeptWithin x
+pub within_as : (k x : Result ℕ Refusal) → k ≡ x → KeptWithin k → KeptWithin x
 within_as k x e w = subst KeptWithin e w
-
-pub small_refused : (k : Kept) (n rest : ℕ) → KeptWithin k → k ≡ Kept.Refused n rest → rest < 2 ^ 23
-unfolding KeptWithin
-small_refused k n rest w e = let z : rest ≤ 257 = subst KeptWithin e w in omega arith
-
-pub small_all : (k : Kept) (to : ℕ) → KeptWithin k → k ≡ Kept.All to → to < 2 ^ 23
-unfolding KeptWithin
-small_all k to w e = let z : to ≤ 8481 = subst KeptWithin e w in omega arith
 
 -- ---- and all of them given
 
-ended_gave : (bad : ℕ) (t old new : List ℕ) (k : Kept) (r : ℕ) → r ≡ as_rest k → new ≡ kept_of k old 0 t → k ≡ ended_of bad (length old) (length t)
+ended_gave : (bad : ℕ) (t old new : List ℕ) (k : Result ℕ Refusal) (r : ℕ) → r ≡ given k → new ≡ kept_of k old 0 t → k ≡ ended_of bad (length old) (length t)
     → Gave bad t old r new
 unfolding ended_of kept_of
 ended_gave bad t old new k r g d =
-    both_eq bad 0 (λ (z : Kept). k ≡ z → Gave bad t old r new) _ _
-    (λ h. both_lt (length old) (length t) (λ (z : Kept). k ≡ z → Gave bad t old r new) _ _
-    (λ l f. like _ _ (g ∙ ap as_rest f) (d ∙ left f) (gives_full bad t old (length t) h refl l))
-    (λ l f. gives_whole bad t old (length t) h refl r (0 + length t) new l (g ∙ ap as_rest f) (record { bytes = d ∙ left f; place = refl })))
-    (λ h f. like _ _ (g ∙ ap as_rest f) (d ∙ left f) (gives_bad bad t old (with_rest 3 bad) h refl))
+    both_eq bad 0 (λ (z : Result ℕ Refusal). k ≡ z → Gave bad t old r new) _ _
+    (λ h. both_lt (length old) (length t) (λ (z : Result ℕ Refusal). k ≡ z → Gave bad t old r new) _ _
+    (λ l f. like _ _ (g ∙ ap given f) (d ∙ left f) (gives_full bad t old (length t) h refl l))
+    (λ l f. gives_whole bad t old (length t) h refl r (0 + length t) new l (g ∙ ap given f) (record { bytes = d ∙ left f; place = refl })))
+    (λ h f. like _ _ (g ∙ ap given f) (d ∙ left f) (gives_bad bad t old (with_rest 3 bad) h refl))
   where
     like : (x : ℕ) (y : List ℕ) → r ≡ x → new ≡ y → Gave bad t old x y → Gave bad t old r new
     like x y a b (u, v) = (a ∙ u, b ∙ v)
 
-    left : {z : Kept} → k ≡ z → kept_of k old 0 t ≡ kept_of z old 0 t
-    left f = ap (λ (x : Kept). kept_of x old 0 t) f
+    left : {z : Result ℕ Refusal} → k ≡ z → kept_of k old 0 t ≡ kept_of z old 0 t
+    left f = ap (λ (x : Result ℕ Refusal). kept_of x old 0 t) f
 
-pub several_given : (message cause : ℕ) (c : Component) (p : Parameter) (old new : List ℕ) (k : Kept) (r : ℕ) → Carried message cause c → FitsHeld p
-    → Keeps message cause (before c p) old 0 k new → r ≡ as_rest k → Reads message cause (before c p) old r new
+pub several_given : (message cause : ℕ) (c : Component) (p : Parameter) (old new : List ℕ) (k : Result ℕ Refusal) (r : ℕ) → Carried message cause c → FitsHeld p
+    → Keeps message cause (before c p) old 0 k new → r ≡ given k → Reads message cause (before c p) old r new
 unfolding before read_gives read_leaves Keeps
-several_given message cause c (refused n place) old new k r f fs (e, d) g = (g ∙ ap as_rest e, d)
+several_given message cause c (refused n place) old new k r f fs (e, d) g = (g ∙ ap given e, d)
 several_given message cause c (holds cs) old new k r f fs (e, d) g =
     let bad = carrier_bad message cause in
     let t = entries_of message cause (c ∷ cs) in

@@ -1,7 +1,7 @@
 -- What a host in C gives and gets: a parameter, and an entry for each of its components. An entry is an identifier, two bytes, least first,
 -- and a whole record of kind 3. What is given back is a number and a rest, as number + 256 * rest.
 -- Assumes nothing.
-use Rattle.std.specs.Prelude.{◌&&◌, ◌≡◌, List, [], ◌∷◌, ◌++◌, ℕ, ◌+◌, ◌*◌, ◌≤◌, leb, length, None, Some, Ok, Err}
+use Rattle.std.specs.Prelude.{◌&&◌, ◌≡◌, List, [], ◌∷◌, ◌++◌, ℕ, ◌+◌, ◌*◌, ◌≤◌, leb, length, Option, None, Some, Result, Ok, Err}
 use Rattle.std.proofs.lemmas.List.Edits.{sets}
 use Rattle.text.specs.Choose.{if_lt, if_eq}
 use Rattle.files.specs.Bodies.{record_of, Reading, plain_at}
@@ -17,7 +17,10 @@ use Rattle.wire.specs.Texts.{parameter_text, leaves_of}
 use Rattle.wire.specs.Writable.{bad_of}
 use Rattle.wire.specs.declared.Component.{Component}
 use Rattle.peers.specs.Messages.{received_of, no_component, carried_of}
-use Rattle.peers.specs.declared.Kept.{Kept}
+use Rattle.wire.specs.Answers.{refusal}
+use Rattle.wire.specs.declared.Unwritten.{Unwritten}
+use Rattle.peers.specs.declared.Refusal.{Refusal}
+use Rattle.peers.specs.declared.Refusal.TheVariants.{BadField, OtherKind, NoRoom, BadRecord, BadParameter}
 
 -- ---- what is given back
 
@@ -27,6 +30,26 @@ no_room = 8
 
 abbrev pub with_rest : ℕ → ℕ → ℕ
 with_rest number rest = number + 256 * rest
+
+-- a refusal's number and its rest: a field's ordinal, or a place, else 0
+abbrev pub number_told : Refusal → ℕ
+number_told (BadField k) = bad_field
+number_told OtherKind = bad_field
+number_told NoRoom = no_room
+number_told (BadRecord stop) = stop_number stop
+number_told (BadParameter r) = r.number
+
+abbrev pub rest_told : Refusal → ℕ
+rest_told (BadField k) = k
+rest_told OtherKind = 0
+rest_told NoRoom = 0
+rest_told (BadRecord stop) = 0
+rest_told (BadParameter r) = r.place
+
+-- of what was written its length
+abbrev pub given : Result ℕ Refusal → ℕ
+given (Ok n) = with_rest 0 n
+given (Err r) = with_rest (number_told r) (rest_told r)
 
 -- of the text t, where bad is the ordinal of the first field out of range, or 0: 3 and that ordinal, then 8; else 0 and how many bytes were
 -- written. What is left of the buffer is what the writer of `wire` leaves (`leaves_of`)
@@ -67,21 +90,21 @@ read_leaves message cause (refused n place) out = out
 read_leaves message cause (holds cs) out = leaves_of (first_bad message cause (or_none cs)) (entries_of message cause (or_none cs)) out
 
 -- Entries that end at a place of a buffer with this room: 3 and the bad field's ordinal, then 8; else the place
-unfoldable pub ended_of : ℕ → ℕ → ℕ → Kept
-ended_of bad room to = if_eq bad 0 (if_lt room to (Kept.Refused no_room 0) (Kept.All to)) (Kept.Refused bad_field bad)
+unfoldable pub ended_of : ℕ → ℕ → ℕ → Result ℕ Refusal
+ended_of bad room to = if_eq bad 0 (if_lt room to (Err NoRoom) (Ok to)) (Err (BadField bad))
 
-unfoldable pub kept_of : Kept → List ℕ → ℕ → List ℕ → List ℕ
-kept_of (Kept.Refused n rest) old from t = old
-kept_of (Kept.All to) old from t = sets old from t
+unfoldable pub kept_of : Result ℕ Refusal → List ℕ → ℕ → List ℕ → List ℕ
+kept_of (Err r) old from t = old
+kept_of (Ok to) old from t = sets old from t
 
 -- what stands beside the number: 33 bytes an entry, 257 bytes of a parameter
-unfoldable pub KeptWithin : Kept → Type 0
-KeptWithin (Kept.Refused n rest) = rest ≤ 257
-KeptWithin (Kept.All to) = to ≤ 8481
+abbrev pub KeptWithin : Result ℕ Refusal → Type 0
+KeptWithin (Err r) = rest_told r ≤ 257
+KeptWithin (Ok to) = to ≤ 8481
 
 -- the entries of what a parameter holds, from a place of the buffer on: all of them in it, or all of it as it was
-unfoldable pub Keeps : ℕ → ℕ → Parameter → List ℕ → ℕ → Kept → List ℕ → Type 0
-Keeps message cause (refused n place) old from k new = (k ≡ Kept.Refused n place) × (new ≡ old)
+unfoldable pub Keeps : ℕ → ℕ → Parameter → List ℕ → ℕ → Result ℕ Refusal → List ℕ → Type 0
+Keeps message cause (refused n place) old from k new = (k ≡ Err (BadParameter (refusal n place))) × (new ≡ old)
 Keeps message cause (holds cs) old from k new =
     (k ≡ ended_of (carrier_bad message cause) (length old) (from + length (entries_of message cause cs)))
     × (new ≡ kept_of k old from (entries_of message cause cs))
@@ -103,6 +126,11 @@ nearest a b = if_eq a 0 b (if_eq b 0 a (if_lt b a b a))
 -- its record, is counted last
 unfoldable pub in_record : ℕ → ℕ
 in_record k = if_eq k 0 0 (2 + k)
+
+-- what the writer of `wire` refuses, told so
+abbrev pub in_record_told : Unwritten → Refusal
+in_record_told (Unwritten.BadField k) = BadField (2 + k)
+in_record_told Unwritten.NoRoom = NoRoom
 
 -- the first field of an entry's message that is out of range in a record, or that cannot be written
 unfoldable pub sent_bad : Message → ℕ → ℕ

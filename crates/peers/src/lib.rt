@@ -9,13 +9,18 @@
 mod entries;
 mod messages;
 mod parameters;
+mod refusals;
 
 pub use messages::{alone, carried, heard, received, sent, write_sent};
 pub use parameters::{rev_read_parameter, rev_write_parameter};
 
-// What became of entries: the place after the last; or a refusal, and its rest.
-#[derive(Clone, Copy)]
-pub enum Kept {
-    Refused(u8, usize),
-    All(usize),
+// Why nothing is written for a host in C: of a record's fields the one with this ordinal is the first out of range; no parameter carries a
+// record of this kind; there is too little room; the record cannot be read; or the parameter cannot.
+#[derive(Clone, Copy, PartialEq, Eq)]
+pub enum Refusal {
+    BadField(u16),
+    OtherKind,
+    NoRoom,
+    BadRecord(files::Unreadable),
+    BadParameter(wire::Refusal),
 }

@@ -1,22 +1,23 @@
 // Components of the wire, and messages as calls have them.
+#![tactic(auto, unfolding(crate::specs::Messages::number_of, crate::specs::Messages::heard_of, crate::specs::Messages::received_of, crate::specs::Messages::no_component, crate::specs::Messages::alone_of, crate::specs::Messages::party_of, crate::specs::Messages::carried_of, crate::specs::Messages::sent_of))]
+
 ghost use Rattle.std.specs.Prelude.{◌≡◌};
 ghost use Rattle.wire.specs.Texts.{parameter_text, written_of, leaves_of};
 ghost use Rattle.wire.specs.Writable.{bad_of};
 ghost use Rattle.peers.specs.Messages.{number_of, heard_of, received_of, no_component, alone_of, party_of, carried_of, sent_of};
 
 use rows::{Event, Message, Note, Number};
-use wire::{Component, Written};
+use wire::{Component, Unwritten};
 
 // ---- from the wire
 
+// Kept: no `From` here and at `party`, since both types of a number belong to other crates.
 fn number(n: wire::Number) -> Number
     ensures { result ≡ number_of n }
 {
-    let nature = files::nature_of(n.count);
-    let count = files::count_of(n.count);
     Number {
-        nature,
-        count,
+        nature: files::nature_of(n.count),
+        count: files::count_of(n.count),
         value: n.value,
     }
 }
@@ -25,18 +26,13 @@ fn number(n: wire::Number) -> Number
 pub fn heard(message: u8, cause: u8, c: Component) -> Message
     ensures { result ≡ heard_of message cause c }
 {
-    let a = c.calling;
-    let b = c.called;
-    let component = files::component_of(c.kind, c.item);
-    let calling = number(a);
-    let called = number(b);
     Message {
         kind: message,
         cause,
-        component,
+        component: files::component_of(c.kind, c.item),
         parts: c.parts,
-        calling,
-        called,
+        calling: number(c.calling),
+        called: number(c.called),
         duration: c.duration,
     }
 }
@@ -76,10 +72,8 @@ pub fn alone(message: u8, cause: u8) -> Event
 fn party(n: Number) -> wire::Number
     ensures { result ≡ party_of n }
 {
-    let nature = n.nature;
-    let count = files::count_byte(nature, n.count);
     wire::Number {
-        count,
+        count: files::count_byte(n.nature, n.count),
         value: n.value,
     }
 }
@@ -88,19 +82,12 @@ fn party(n: Number) -> wire::Number
 pub fn carried(m: Message, id: u16) -> Component
     ensures { result ≡ carried_of m id }
 {
-    let component = m.component;
-    let a = m.calling;
-    let b = m.called;
-    let kind = files::code_of(component);
-    let item = files::item_of(component);
-    let calling = party(a);
-    let called = party(b);
     Component {
-        kind,
-        item,
+        kind: files::code_of(m.component),
+        item: files::item_of(m.component),
         parts: m.parts,
-        calling,
-        called,
+        calling: party(m.calling),
+        called: party(m.called),
         duration: m.duration,
         id,
     }
@@ -110,23 +97,20 @@ pub fn carried(m: Message, id: u16) -> Component
 pub fn sent(n: Note, id: u16) -> Component
     ensures { result ≡ sent_of n id }
 {
-    let component = n.component;
-    let calling = n.calling;
-    let called = n.called;
     let m = Message {
         kind: 0,
         cause: 0,
-        component,
+        component: n.component,
         parts: n.parts,
-        calling,
-        called,
+        calling: n.calling,
+        called: n.called,
         duration: n.duration,
     };
     carried(m, id)
 }
 
 // What a row sends, as a whole parameter: 3 for what cannot be written, then 8 for too little room.
-pub fn write_sent(n: Note, id: u16, out: &mut [u8]) -> Written
+pub fn write_sent(n: Note, id: u16, out: &mut [u8]) -> Result<usize, Unwritten>
     ensures { (result ≡ written_of (bad_of (sent_of n id)) (parameter_text (sent_of n id)) out.old)
         × (out.new ≡ leaves_of (bad_of (sent_of n id)) (parameter_text (sent_of n id)) out.old) }
 {

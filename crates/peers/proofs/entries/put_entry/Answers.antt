@@ -6,4 +6,4 @@ pub put_message-n-requires : goal.put_message-n-requires
 put_message-n-requires c = entry_room _ _ c.args.at _ _ c.args.m (omega arith) c.put_2-to.ensures.put c.put_2-to.ensures.value
 
 pub returns : goal.returns
-returns c = entry_as _ _ _ _ _ _ _ _ c.put_2-to.ensures.put (omega arith) c.put_message-n.ensures
+returns c = entry_as _ _ _ _ _ _ _ _ (rw c.from.ensures at c.put_2-to.ensures.put) (omega arith) c.put_message-n.ensures

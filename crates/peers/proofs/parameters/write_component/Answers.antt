@@ -1,11 +1,11 @@
-use Rattle.peers.proofs.Hosted.{done_small, component_done, component_not}
+use Rattle.std.proofs.lemmas.Result.{err_from_is_err_and}
+use Rattle.peers.proofs.Hosted.{component_as}
 use Rattle.peers.proofs.parameters.write_component.Goals as goal
 
-pub with_rest-requires : goal.with_rest-requires
-with_rest-requires c = done_small _ _ _ _ c.write_parameter-w.ensures _ c.in-Done.is
+pub returns-in_err-write_parameter : goal.returns-in_err-write_parameter
+returns-in_err-write_parameter c =
+    let p = err_from_is_err_and c.from_residual.result c.from_residual.ensures.1 in
+    rw (p.1, p.2) (component_as _ _ _ _ (rw c.in_err-write_parameter.was at c.write_parameter.ensures))
 
-pub returns-in-Done : goal.returns-in-Done
-returns-in-Done c = component_done _ _ _ _ c.write_parameter-w.ensures _ _ c.in-Done.is c.with_rest.ensures
-
-pub returns-in-Refused : goal.returns-in-Refused
-returns-in-Refused c = component_not _ _ _ _ c.write_parameter-w.ensures _ _ _ c.in-Refused.is _ c.in_record.ensures c.with_rest-in-Refused.ensures
+pub returns : goal.returns
+returns c = component_as _ _ _ _ (rw c.in_ok-write_parameter.was at c.write_parameter.ensures)

@@ -1,9 +1,11 @@
-use Rattle.wire.proofs.Pieces.{duration_as, duration_not}
-use borrow.Author.Rules.{rules}
+use Rattle.text.proofs.Laws.{put_none}
+use Rattle.text.specs.Choose.{if_so}
 use Rattle.wire.proofs.writer.put_duration.Goals as goal
 
-pub returns-then-present-eq1-clause-put : goal.returns-then-present-eq1-clause-put
-returns-then-present-eq1-clause-put c = search (duration_as, rules)
+pub returns-then-present-clause-put : goal.returns-then-present-clause-put
+unfolding if_so
+returns-then-present-clause-put c = rw c.if-present.true c.put_word.ensures
 
-pub returns-clause-put : goal.returns-clause-put
-returns-clause-put c = search (duration_as, duration_not, rules)
+pub returns-else-present-clause-put : goal.returns-else-present-clause-put
+unfolding if_so
+returns-else-present-clause-put c = rw c.if-present.false (put_none _ _)

@@ -1,6 +1,6 @@
-use Rattle.wire.proofs.Pieces.{id_as}
-use borrow.Author.Rules.{rules}
+use Rattle.wire.specs.Texts.{id_text}
 use Rattle.wire.proofs.writer.put_id.Goals as goal
 
 pub returns-clause-put : goal.returns-clause-put
-returns-clause-put c = search (id_as, rules)
+unfolding id_text
+returns-clause-put c = c.put_word.ensures

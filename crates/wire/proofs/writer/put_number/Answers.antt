@@ -1,6 +1,7 @@
-use Rattle.wire.proofs.Pieces.{number_as}
-use borrow.Author.Rules.{rules}
+use Rattle.text.proofs.Laws.{put_after}
+use Rattle.wire.specs.Texts.{number_text}
 use Rattle.wire.proofs.writer.put_number.Goals as goal
 
 pub returns-clause-put : goal.returns-clause-put
-returns-clause-put c = search (number_as, rules)
+unfolding number_text
+returns-clause-put c = put_after (rw (c.from.ensures, c.padded-v.ensures) at c.put_octets.ensures.put) c.put_word-to.ensures

@@ -3,6 +3,3 @@ use Rattle.wire.proofs.writer.put_octets.Given as goal
 
 abbrev pub invariant-loop-left : goal.invariant-loop-left
 invariant-loop-left l = Octets l.fn.out l.at l.v l.m l.out l.left l.rest
-
-abbrev pub decreases-loop-left : goal.decreases-loop-left
-decreases-loop-left l = l.left

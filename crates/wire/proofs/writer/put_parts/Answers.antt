@@ -1,6 +1,7 @@
-use Rattle.wire.proofs.Pieces.{parts_as}
-use borrow.Author.Rules.{rules}
+use Rattle.text.proofs.Laws.{put_after}
+use Rattle.wire.specs.Texts.{parts_text}
 use Rattle.wire.proofs.writer.put_parts.Goals as goal
 
 pub returns-clause-put : goal.returns-clause-put
-returns-clause-put c = search (parts_as, rules)
+unfolding parts_text
+returns-clause-put c = put_after c.put_last.ensures.put (put_after c.put_parties-next.ensures.put c.put_first-to.ensures.put)

@@ -1,9 +1,11 @@
-use Rattle.wire.proofs.Pieces.{rejected_none, rejected_some}
-use borrow.Author.Rules.{rules}
+use Rattle.text.proofs.Laws.{put_yes, put_no}
+use Rattle.wire.specs.Texts.{rejected_text}
 use Rattle.wire.proofs.writer.put_rejected.Goals as goal
 
 pub returns-then-id-eq256-clause-put : goal.returns-then-id-eq256-clause-put
-returns-then-id-eq256-clause-put c = search (rejected_none, rejected_some, rules)
+unfolding rejected_text
+returns-then-id-eq256-clause-put c = put_yes _ _ _ _ _ _ _ _ c.if-id-eq256.true c.put_word.ensures
 
-pub returns-clause-put : goal.returns-clause-put
-returns-clause-put c = search (rejected_none, rejected_some, rules)
+pub returns-else-id-eq256-clause-put : goal.returns-else-id-eq256-clause-put
+unfolding rejected_text
+returns-else-id-eq256-clause-put c = put_no _ _ _ _ _ _ _ _ c.if-id-eq256.false c.put_id.ensures.put
