@@ -1,6 +1,6 @@
 -- What a host gets by the contracts of the writers: when each number is given, and what the buffer then holds.
 -- Assumes nothing.
-use Rattle.std.proofs.Common.{◌≡◌, ℕ, suc, ◌+◌, ◌-◌, ◌*◌, ◌<◌, ◌≤◌, true, false, ◌⊎◌, ◌↔◌, List, ◌++◌, length, take, drop, sym, refl, ap, ◌∙◌, subst, ap₂, inl, inr, arith}
+use Rattle.std.proofs.Common.{◌≡◌, ℕ, Result, Ok, suc, ◌+◌, ◌-◌, ◌*◌, ◌<◌, ◌≤◌, true, false, ◌⊎◌, ◌↔◌, List, ◌++◌, length, take, drop, sym, refl, ap, ◌∙◌, subst, ap₂, inl, inr, arith}
 use lib.Seq.{take-append_seam, drop-append_seam}
 use Rattle.text.proofs.Cases.{both_so, both_lt}
 use Rattle.rows.specs.Reasons.{FirstOut}
@@ -17,8 +17,7 @@ use Rattle.files.specs.Write.{number_of, bytes_written, gives_back, slot_gives, 
 use Rattle.files.specs.declared.Read.{Read}
 use Rattle.files.specs.declared.Where.{Where}
 use Rattle.files.specs.declared.Where.TheVariants.{Plain, Slot}
-use Rattle.files.specs.declared.Written.{Written}
-use Rattle.files.specs.declared.Written.TheVariants.{Whole}
+use Rattle.files.specs.declared.Unwritten.{Unwritten}
 use Rattle.files.proofs.BothWays.{record_length, record_range, slotted_length, first_reads_back, read_writes_back}
 use Rattle.files.proofs.BothWays.{plain_stands, plain_acts, plain_ends_past, plain_past_end}
 use Rattle.files.proofs.Puts.{is_whole, ways}
@@ -128,7 +127,7 @@ all_measured w e old =
 
 -- By the contracts of `write_event` and `write_at_slot`, which are `Wrote w e old a new`: the same with the number and the ordinal of the
 -- answer, and on 0 the answer has the record's length.
-pub event_written : (w : Where) (e : Event) (old : List ℕ) (a : Written) (new : List ℕ) → Wrote w e old a new
+pub event_written : (w : Where) (e : Event) (old : List ℕ) (a : Result ℕ Unwritten) (new : List ℕ) → Wrote w e old a new
     → Writes w e old (gives_back a) new × (number_of a ≡ 0 → bytes_written a ≡ length (entry_of w e))
 event_written w e old a new (g, f) =
     (host_writes w e old (gives_back a) new (ap gives_back g, f), λ k. ap bytes_written g ∙ all_measured w e old (ap number_of (sym g) ∙ k))
@@ -136,12 +135,12 @@ event_written w e old a new (g, f) =
 -- What the reader accepts with every field in range, the writer writes back byte for byte, wherever there is room for it.
 pub read_then_written : (s : List ℕ) → AllBytes s → (at next : ℕ) (w : Where) (e : Event) → read_at s at ≡ Read.Got w e next → event_ok e ≡ true
     → (old : List ℕ) → next - at ≤ length old
-    → (answered_of w e old ≡ Whole (next - at)) × (held_of w e old ≡ take (next - at) (drop at s) ++ drop (next - at) old)
+    → (answered_of w e old ≡ Ok (next - at)) × (held_of w e old ≡ take (next - at) (drop at s) ++ drop (next - at) old)
 read_then_written s b at next w e g h old l =
     let a = read_writes_back s b at next w e g in
     let n : length (entry_of w e) ≡ next - at = omega (arith, a.1) in
     let (f, k) = is_whole w e old h (omega (arith, n)) in
-    (sym f ∙ ap Whole n, sym k ∙ ap₂ (λ (x : List ℕ) (m : ℕ). x ++ drop m old) a.0 n)
+    (sym f ∙ ap Ok n, sym k ∙ ap₂ (λ (x : List ℕ) (m : ℕ). x ++ drop m old) a.0 n)
 
 -- ---- A host in C hands over bytes for the record inside one of kind 7
 

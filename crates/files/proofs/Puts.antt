@@ -1,13 +1,13 @@
 -- What the writer's functions put is what its definitions say: bytes of a number, fields, records; and what is answered and left.
 -- Assumes nothing.
-use Rattle.std.proofs.Common.{◌≡◌, ℕ, ◌+◌, ◌-◌, ◌*◌, ◌/◌, ◌%◌, ◌^◌, ◌<◌, ◌≤◌, Bool, true, false, List, [], ◌∷◌, ◌++◌, length, take, drop, set, sym, refl, ap, ◌∙◌, subst, append_assoc, append-nil, zero-add, add-one, arith, length-append, length-drop, take-append-drop, drop_of_length-le, length-take-le, take_all, drop-drop}
+use Rattle.std.proofs.Common.{◌≡◌, ℕ, Some, None, Result, Ok, Err, ◌+◌, ◌-◌, ◌*◌, ◌/◌, ◌%◌, ◌^◌, ◌<◌, ◌≤◌, Bool, true, false, List, [], ◌∷◌, ◌++◌, length, take, drop, set, sym, refl, ap, ◌∙◌, subst, append_assoc, append-nil, zero-add, add-one, arith, length-append, length-drop, take-append-drop, drop_of_length-le, length-take-le, take_all, drop-drop}
 use lib.Seq.{sets, sets-eq, drop-append_seam}
 use borrow.Rule.Slice.PartMut.{mid_of, put_mid}
 use Rattle.text.specs.Text.{Put}
 use Rattle.text.specs.Choose.{if_lt, if_eq, if_so}
 use Rattle.text.proofs.Cases.{yes_so, no_so, yes_lt, no_lt, both_so, both_lt}
 use Rattle.text.proofs.Laws.{put_none, put_in, put_after, put_as}
-use Rattle.rows.specs.Valid.{event_ok, bad_field_of}
+use Rattle.rows.specs.Valid.{event_ok, ordinal, bad_field_of}
 use Rattle.rows.specs.declared.Component.{Component}
 use Rattle.rows.specs.declared.Event.{Event}
 use Rattle.rows.specs.declared.Event.TheVariants.{Opening, Ask, Received, FromAccess, Expiry, Time}
@@ -15,7 +15,7 @@ use Rattle.rows.specs.declared.Message.{Message}
 use Rattle.rows.specs.declared.Nature.{Nature}
 use Rattle.rows.specs.declared.Nature.TheVariants.{National, International}
 use Rattle.rows.specs.declared.Number.{Number}
-use Rattle.rows.proofs.Ranges.{none_bad_exactly}
+use Rattle.rows.proofs.Ranges.{none_bad_exactly, none_told, some_told}
 use Rattle.files.specs.Bodies.{count_byte, component_of, code_of, item_of, number_values, front_values, carried_values, kind_of, fields_of}
 use Rattle.files.specs.Bodies.{values_of, head_of, record_of, slot_head, slotted_of, entry_of, plain_at}
 use Rattle.files.specs.Bytes.{le_of, part}
@@ -27,8 +27,8 @@ use Rattle.files.specs.Write.{written_of, left_of, written_at, left_at, gives_ba
 use Rattle.files.specs.declared.Read.{Read}
 use Rattle.files.specs.declared.Where.{Where}
 use Rattle.files.specs.declared.Where.TheVariants.{Plain, Slot}
-use Rattle.files.specs.declared.Written.{Written}
-use Rattle.files.specs.declared.Written.TheVariants.{Whole, BadField, NoRoom}
+use Rattle.files.specs.declared.Unwritten.{Unwritten}
+use Rattle.files.specs.declared.Unwritten.TheVariants.{BadField, NoRoom}
 use Rattle.files.proofs.BothWays.{record_length, record_range, slot_head_length, slotted_length}
 use Rattle.files.proofs.Records.{not_one, message_size}
 use Rattle.files.proofs.Same.{answered_of, held_of, HandedOver}
@@ -226,7 +226,18 @@ sizes = (refl, refl, refl, refl, refl)
 pub message_sized : (n parts : ℕ) → n ≡ 2 + length_of 3 parts → n ≡ 2 + length_with (message_fields parts)
 message_sized n parts e = e ∙ ap (λ (k : ℕ). 2 + k) (length_three parts)
 
--- ---- what is answered and left. t: the ordinal of the first field out of range, 0 where there is none; n: the record's length, as it was
+-- the event e that was matched: the size of its record, the room for it, and what was put
+module _ (e f : Event) (g : e ≡ f) where
+  pub size_of_event : (n : ℕ) → n ≡ 2 + length_with (fields_of f) → n ≡ length (record_of e)
+  size_of_event n h = h ∙ sym (record_length f) ∙ ap (λ (x : Event). length (record_of x)) (sym g)
+
+  pub room_of_event : (n : ℕ) (out : List ℕ) → n ≡ 2 + length_with (fields_of f) → length (record_of e) ≤ length out → n ≤ length out
+  room_of_event n out h l = omega (arith, size_of_event n h)
+
+  pub event_put : (l new : List ℕ) (r : ℕ) → Put l 0 (record_of f) new r → Put l 0 (record_of e) new r
+  event_put l new r p = put_as (ap record_of (sym g)) p
+
+-- ---- what is answered and left. t: the ordinal of the first field out of range, where there is one; n: the record's length, as it was
 -- measured
 
 module _ (e : Event) (out : List ℕ) where
@@ -234,33 +245,31 @@ module _ (e : Event) (out : List ℕ) where
   some_bad true h i = absurd (i ((none_bad_exactly e).1 h))
   some_bad false h i = h
 
-  pub bad_as : (t : ℕ) → t ≡ bad_field_of e → (t ≡ 0 → ⊥) → (BadField t ≡ written_of e out) × (out ≡ left_of e out)
+  pub bad_as : (t : ℕ) → Some t ≡ ordinal (bad_field_of e) → (Err (BadField t) ≡ written_of e out) × (out ≡ left_of e out)
   unfolding written_of left_of
-  bad_as t g h =
-      let b = some_bad (event_ok e) refl (λ z. h (g ∙ z)) in
-      (no_so _ _ _ _ b (ap BadField g), no_so _ _ _ _ b refl)
+  bad_as t h =
+      let s = some_told _ _ h in
+      let b = some_bad (event_ok e) refl s.1 in
+      (no_so _ _ _ _ b (ap (λ (k : ℕ). Err (BadField k)) s.0), no_so _ _ _ _ b refl)
 
-  module _ (t : ℕ) (n : ℕ) (g : t ≡ bad_field_of e) (h : t ≡ 0) (l : n ≡ 2 + length_with (fields_of e)) where
+  module _ (n : ℕ) (h : None ≡ ordinal (bad_field_of e)) (size : n ≡ length (record_of e)) where
     good : event_ok e ≡ true
-    good = (none_bad_exactly e).0 (sym g ∙ h)
+    good = (none_bad_exactly e).0 (none_told _ h)
 
-    size : n ≡ length (record_of e)
-    size = l ∙ sym (record_length e)
-
-    pub narrow_as : length out < n → (NoRoom ≡ written_of e out) × (out ≡ left_of e out)
+    pub narrow_as : length out < n → (Err NoRoom ≡ written_of e out) × (out ≡ left_of e out)
     unfolding written_of left_of
     narrow_as f =
         let k : length out < length (record_of e) = omega (arith, size) in
         (yes_so _ _ _ _ good (yes_lt _ _ _ _ _ k refl), yes_so _ _ _ _ good (yes_lt _ _ _ _ _ k refl))
 
     pub whole_as : (new : List ℕ) (r : ℕ) → n ≤ length out → Put out 0 (record_of e) new r
-        → (Whole r ≡ written_of e out) × (new ≡ left_of e out)
+        → (Ok r ≡ written_of e out) × (new ≡ left_of e out)
     unfolding written_of left_of
     whole_as new r f p =
         let k : length (record_of e) ≤ length out = omega (arith, size) in
         let s : new ≡ record_of e ++ drop (length (record_of e)) out =
         p.bytes ∙ sets-eq (record_of e) out 0 (omega arith) ∙ ap (λ (m : ℕ). record_of e ++ drop m out) (zero-add (length (record_of e))) in (
-          yes_so _ _ _ _ good (no_lt _ _ _ _ _ k (ap Whole (p.place ∙ zero-add _))),
+          yes_so _ _ _ _ good (no_lt _ _ _ _ _ k (ap Ok (p.place ∙ zero-add _))),
           yes_so _ _ _ _ good (no_lt _ _ _ _ _ k s),
         )
 
@@ -268,12 +277,12 @@ module _ (e : Event) (out : List ℕ) where
 
 module _ (w : Where) (e : Event) (out : List ℕ) where
   answered_as : answered_of w e out
-      ≡ if_so (event_ok e) (if_lt (length out) (length (entry_of w e)) NoRoom (Whole (length (entry_of w e)))) (BadField (bad_field_of e))
+      ≡ if_so (event_ok e) (if_lt (length out) (length (entry_of w e)) (Err NoRoom) (Ok (length (entry_of w e)))) (Err (BadField (bad_field_of e)))
   unfolding written_of written_at
   answered_as = by w
     where
       by : (v : Where) → answered_of v e out
-          ≡ if_so (event_ok e) (if_lt (length out) (length (entry_of v e)) NoRoom (Whole (length (entry_of v e)))) (BadField (bad_field_of e))
+          ≡ if_so (event_ok e) (if_lt (length out) (length (entry_of v e)) (Err NoRoom) (Ok (length (entry_of v e)))) (Err (BadField (bad_field_of e)))
       by Plain = refl
       by (Slot i) = refl
 
@@ -287,23 +296,23 @@ module _ (w : Where) (e : Event) (out : List ℕ) where
       by Plain = refl
       by (Slot i) = refl
 
-  pub is_bad : event_ok e ≡ false → (BadField (bad_field_of e) ≡ answered_of w e out) × (out ≡ held_of w e out)
+  pub is_bad : event_ok e ≡ false → (Err (BadField (bad_field_of e)) ≡ answered_of w e out) × (out ≡ held_of w e out)
   is_bad h = (no_so _ _ _ _ h refl ∙ sym answered_as, no_so _ _ _ _ h refl ∙ sym held_as)
 
   module _ (h : event_ok e ≡ true) where
-    pub is_narrow : length out < length (entry_of w e) → (NoRoom ≡ answered_of w e out) × (out ≡ held_of w e out)
+    pub is_narrow : length out < length (entry_of w e) → (Err NoRoom ≡ answered_of w e out) × (out ≡ held_of w e out)
     is_narrow l =
         (yes_so _ _ _ _ h (yes_lt _ _ _ _ _ l refl) ∙ sym answered_as, yes_so _ _ _ _ h (yes_lt _ _ _ _ _ l refl) ∙ sym held_as)
 
     pub is_whole : length (entry_of w e) ≤ length out
-        → (Whole (length (entry_of w e)) ≡ answered_of w e out) × (entry_of w e ++ drop (length (entry_of w e)) out ≡ held_of w e out)
+        → (Ok (length (entry_of w e)) ≡ answered_of w e out) × (entry_of w e ++ drop (length (entry_of w e)) out ≡ held_of w e out)
     is_whole l =
         (yes_so _ _ _ _ h (no_lt _ _ _ _ _ l refl) ∙ sym answered_as, yes_so _ _ _ _ h (no_lt _ _ _ _ _ l refl) ∙ sym held_as)
 
-  pub ways : (P : Written → List ℕ → Type 0)
-      → (event_ok e ≡ false → P (BadField (bad_field_of e)) out)
-      → (event_ok e ≡ true → length out < length (entry_of w e) → P NoRoom out)
-      → (event_ok e ≡ true → length (entry_of w e) ≤ length out → P (Whole (length (entry_of w e))) (entry_of w e ++ drop (length (entry_of w e)) out))
+  pub ways : (P : Result ℕ Unwritten → List ℕ → Type 0)
+      → (event_ok e ≡ false → P (Err (BadField (bad_field_of e))) out)
+      → (event_ok e ≡ true → length out < length (entry_of w e) → P (Err NoRoom) out)
+      → (event_ok e ≡ true → length (entry_of w e) ≤ length out → P (Ok (length (entry_of w e))) (entry_of w e ++ drop (length (entry_of w e)) out))
       → P (answered_of w e out) (held_of w e out)
   ways P bad narrow whole =
       both_so (event_ok e) (λ (_ : ℕ). P (answered_of w e out) (held_of w e out)) 0 0
@@ -312,8 +321,8 @@ module _ (w : Where) (e : Event) (out : List ℕ) where
       (λ l. at (is_narrow h l) (narrow h l)) (λ l. at (is_whole h l) (whole h l)))
       (λ h. at (is_bad h) (bad h))
     where
-      at : {a : Written} {l : List ℕ} → (a ≡ answered_of w e out) × (l ≡ held_of w e out) → P a l → P (answered_of w e out) (held_of w e out)
-      at (f, g) p = subst (λ (x : Written). P x (held_of w e out)) f (subst (P _) g p)
+      at : {a : Result ℕ Unwritten} {l : List ℕ} → (a ≡ answered_of w e out) × (l ≡ held_of w e out) → P a l → P (answered_of w e out) (held_of w e out)
+      at (f, g) p = subst (λ (x : Result ℕ Unwritten). P x (held_of w e out)) f (subst (P _) g p)
 
 -- ---- a record of kind 7: the plain one is written where it will stand, and then the six bytes before it
 
@@ -325,22 +334,21 @@ room_left out last h =
 
 module _ (i : ℕ) (e : Event) (out : List ℕ) where
   -- where there is no room for the six bytes, the plain record is written where there is no room either
-  pub headless_as : (a : Written) (last : List ℕ) → length out < 6 → (a ≡ written_of e []) × (last ≡ left_of e [])
+  pub headless_as : (a : Result ℕ Unwritten) (last : List ℕ) → length out < 6 → (a ≡ written_of e []) × (last ≡ left_of e [])
       → (a ≡ written_at i e out) × (last ++ out ≡ left_at i e out)
   headless_as a last l (f, g) =
       let r = record_length e in
       let s = slotted_length i (record_of e) in
-      let P : Written → List ℕ → Type 0 = λ a last. (a ≡ written_at i e out) × (last ++ out ≡ left_at i e out) in
-      subst (λ (x : Written). P x last) (sym f) (subst (P (written_of e [])) (sym g)
+      let P : Result ℕ Unwritten → List ℕ → Type 0 = λ a last. (a ≡ written_at i e out) × (last ++ out ≡ left_at i e out) in
+      subst (λ (x : Result ℕ Unwritten). P x last) (sym f) (subst (P (written_of e [])) (sym g)
       (ways Plain e [] P (λ h. is_bad (Slot i) e out h) (λ h _. is_narrow (Slot i) e out h (omega arith)) (λ _ n. absurd (omega arith))))
 
   -- what was answered to the plain record, and left in the part of the buffer behind the six bytes
-  abbrev pub InSlot : Written → List ℕ → Type 0
-  InSlot (Whole n) last =
-      (n < 2 ^ 16) × (Whole (n + 6) ≡ written_at i e out)
+  abbrev pub InSlot : Result ℕ Unwritten → List ℕ → Type 0
+  InSlot (Ok n) last =
+      (n < 2 ^ 16) × (Ok (n + 6) ≡ written_at i e out)
       × ((new : List ℕ) (r : ℕ) → Put (put_mid 6 (length out - 6) out last) 0 (slot_head n i) new r → new ≡ left_at i e out)
-  InSlot (BadField k) last = (BadField k ≡ written_at i e out) × (put_mid 6 (length out - 6) out last ≡ left_at i e out)
-  InSlot NoRoom last = (NoRoom ≡ written_at i e out) × (put_mid 6 (length out - 6) out last ≡ left_at i e out)
+  InSlot (Err why) last = (Err why ≡ written_at i e out) × (put_mid 6 (length out - 6) out last ≡ left_at i e out)
 
   module _ (l : 6 ≤ length out) where
     part_is : mid_of 6 (length out - 6) out ≡ drop 6 out
@@ -366,7 +374,7 @@ module _ (i : ℕ) (e : Event) (out : List ℕ) where
         p.bytes ∙ ap (λ (t : List ℕ). sets t 0 (slot_head n i)) (put_is last)
         ∙ sets-eq (slot_head n i) (take 6 out ++ last) 0 (omega arith) ∙ ap (λ (t : List ℕ). slot_head n i ++ t) q
 
-    pub in_slot_lem : (a : Written) (last : List ℕ)
+    pub in_slot_lem : (a : Result ℕ Unwritten) (last : List ℕ)
         → (a ≡ written_of e (mid_of 6 (length out - 6) out)) × (last ≡ left_of e (mid_of 6 (length out - 6) out)) → InSlot a last
     unfolding slotted_of
     in_slot_lem a last (f, g) =
@@ -375,7 +383,7 @@ module _ (i : ℕ) (e : Event) (out : List ℕ) where
         let s = slotted_length i (record_of e) in
         let d = length-drop 6 out in
         let n = length (record_of e) in
-        subst (λ (x : Written). InSlot x last) (sym (f ∙ ap (written_of e) part_is))
+        subst (λ (x : Result ℕ Unwritten). InSlot x last) (sym (f ∙ ap (written_of e) part_is))
         (subst (InSlot (written_of e (drop 6 out))) (sym (g ∙ ap (left_of e) part_is))
         (ways Plain e (drop 6 out) InSlot
         (λ h. let (b, c) = is_bad (Slot i) e out h in (b, same-is ∙ c))
@@ -384,7 +392,7 @@ module _ (i : ℕ) (e : Event) (out : List ℕ) where
         let (b, c) = is_whole (Slot i) e out h (omega arith) in
         let j : 6 + n ≡ length (slotted_of i (record_of e)) = omega arith in (
           omega arith,
-          ap Whole (sym s) ∙ b,
+          ap Ok (sym s) ∙ b,
           λ new k p.
               headed (record_of e ++ drop n (drop 6 out)) new n k p
               ∙ sym (append_assoc (slot_head n i) (record_of e) (drop n (drop 6 out)))
@@ -393,49 +401,6 @@ module _ (i : ℕ) (e : Event) (out : List ℕ) where
         ))))
 
 -- the answer that was matched
-pub told : (i : ℕ) (e : Event) (out : List ℕ) → 6 ≤ length out → (a b : Written) (last : List ℕ) → a ≡ b
+pub told : (i : ℕ) (e : Event) (out : List ℕ) → 6 ≤ length out → (a b : Result ℕ Unwritten) (last : List ℕ) → a ≡ b
     → (a ≡ written_of e (mid_of 6 (length out - 6) out)) × (last ≡ left_of e (mid_of 6 (length out - 6) out)) → InSlot i e out b last
-told i e out l a b last g p = subst (λ (x : Written). InSlot i e out x last) g (in_slot_lem i e out l a last p)
-
--- the event that was matched
-pub matched_as : (e f : Event) (out new : List ℕ) (w : Written) → e ≡ f → (w ≡ written_of f out) × (new ≡ left_of f out)
-    → (w ≡ written_of e out) × (new ≡ left_of e out)
-matched_as e f out new w g (a, b) = (a ∙ ap (λ (x : Event). written_of x out) (sym g), b ∙ ap (λ (x : Event). left_of x out) (sym g))
-
--- what a host is given back of what was answered
-pub numbered_as : (e : Event) (out new : List ℕ) (w : Written) (r : ℕ) → r ≡ gives_back w → (w ≡ written_of e out) × (new ≡ left_of e out)
-    → (r ≡ gives_back (written_of e out)) × (new ≡ left_of e out)
-numbered_as e out new w r f (a, b) = (f ∙ ap gives_back a, b)
-
--- of an event f that was made of what a host passed for e
-pub passed_as : (e f : Event) (out new : List ℕ) (w : Written) (r : ℕ) → f ≡ e → r ≡ gives_back w → (w ≡ written_of f out) × (new ≡ left_of f out)
-    → (r ≡ gives_back (written_of e out)) × (new ≡ left_of e out)
-passed_as e f out new w r g h p = numbered_as e out new w r h (matched_as e f out new w (sym g) p)
-
-pub opening_made : (role flags : ℕ) (own own' : Number) → own ≡ own' → Opening role flags own ≡ Opening role flags own'
-opening_made role flags own own' e = ap (Opening role flags) e
-
-pub ask_made : (item : ℕ) (called called' : Number) → called ≡ called' → Ask item called ≡ Ask item called'
-ask_made item called called' e = ap (Ask item) e
-
--- a message by its fields, with the component and the numbers that were made
-pub message_made : (kind cause code item parts duration : ℕ) (component : Component) (calling calling' called called' : Number)
-    → component ≡ component_of code item → calling ≡ calling' → called ≡ called'
-    → Received
-    (record { kind = kind; cause = cause; component = component; parts = parts; calling = calling; called = called; duration = duration })
-    ≡ message_with kind cause code item parts calling' called' duration
-message_made kind cause code item parts duration component calling calling' called called' e f g = rw (e, f, g)
-
--- ---- what a host in C is given back for a plain record that it hands over, by the reading of it
-
-module _ (s : List ℕ) (i : ℕ) (out : List ℕ) (f : Read) (e : f ≡ plain_at s 0) where
-  pub handed_none : f ≡ Read.End → HandedOver s i out 5 out
-  handed_none g = subst (λ (x : Read). (5 ≡ slot_gives x i out) × (out ≡ slot_leaves x i out)) (sym g ∙ e) (refl, refl)
-
-  pub handed_stop : (n : ℕ) → f ≡ Read.Stop n → HandedOver s i out n out
-  handed_stop n g = subst (λ (x : Read). (n ≡ slot_gives x i out) × (out ≡ slot_leaves x i out)) (sym g ∙ e) (refl, refl)
-
-  pub handed_got : (w : Where) (x : Event) (next r : ℕ) (a : Written) (new : List ℕ) → f ≡ Read.Got w x next → r ≡ gives_back a
-      → (a ≡ written_at i x out) × (new ≡ left_at i x out) → HandedOver s i out r new
-  handed_got w x next r a new g h (k, l) =
-      subst (λ (y : Read). (r ≡ slot_gives y i out) × (new ≡ slot_leaves y i out)) (sym g ∙ e) (h ∙ ap gives_back k, l)
+told i e out l a b last g p = subst (λ (x : Result ℕ Unwritten). InSlot i e out x last) g (in_slot_lem i e out l a last p)

@@ -1,7 +1,7 @@
 -- Worked records, one kind after another: the bytes that the writer has for an event, the event that the reader has for the bytes, and each
 -- refusal with the buffer that it leaves. The definitions compute.
 -- Assumes nothing.
-use Rattle.std.proofs.Common.{◌≡◌, ℕ, true, false, [], ◌∷◌, refl}
+use Rattle.std.proofs.Common.{◌≡◌, ℕ, Ok, Err, true, false, [], ◌∷◌, refl}
 use Rattle.text.specs.Choose.{if_lt, if_le, if_eq, if_so}
 use Rattle.rows.specs.Telephone.{absent}
 use Rattle.rows.specs.declared.Component.{Component}
@@ -18,7 +18,7 @@ use Rattle.files.specs.Frames.{length_of, plain_of, plain_frame, kindless_of, ou
 use Rattle.files.specs.Write.{written_of, left_of, written_at, left_at, gives_back, slot_gives, slot_leaves, number_with}
 use Rattle.files.specs.declared.Read.{Read}
 use Rattle.files.specs.declared.Where.TheVariants.{Plain, Slot}
-use Rattle.files.specs.declared.Written.TheVariants.{Whole, BadField, NoRoom}
+use Rattle.files.specs.declared.Unwritten.TheVariants.{BadField, NoRoom}
 
 own : Number
 own = record { nature = National; count = 7; value = 5550100 }
@@ -135,60 +135,60 @@ passed_nature = (refl, refl)
 -- ---- what is answered, and what the buffer then holds
 
 -- just room enough; a byte more, which stays; a byte less: 8, and nothing is written
-expiry_written : (written_of Expiry (9 ∷ 9 ∷ 9 ∷ 9 ∷ []) ≡ Whole 4)
+expiry_written : (written_of Expiry (9 ∷ 9 ∷ 9 ∷ 9 ∷ []) ≡ Ok 4)
     × (left_of Expiry (9 ∷ 9 ∷ 9 ∷ 9 ∷ []) ≡ 2 ∷ 0 ∷ 5 ∷ 0 ∷ [])
     × (left_of Expiry (9 ∷ 9 ∷ 9 ∷ 9 ∷ 9 ∷ []) ≡ 2 ∷ 0 ∷ 5 ∷ 0 ∷ 9 ∷ [])
-    × (written_of Expiry (9 ∷ 9 ∷ 9 ∷ []) ≡ NoRoom)
+    × (written_of Expiry (9 ∷ 9 ∷ 9 ∷ []) ≡ Err NoRoom)
     × (left_of Expiry (9 ∷ 9 ∷ 9 ∷ []) ≡ 9 ∷ 9 ∷ 9 ∷ [])
 unfolding written_of left_of record_of head_of bytes_of size_of le_of if_lt if_so
 expiry_written = (refl, refl, refl, refl, refl)
 
 -- a day and a second is 3, in room enough and in none: 3 comes before 8
-time_refused : (written_of (Time 86401) (9 ∷ 9 ∷ 9 ∷ 9 ∷ 9 ∷ 9 ∷ 9 ∷ 9 ∷ []) ≡ BadField 1)
+time_refused : (written_of (Time 86401) (9 ∷ 9 ∷ 9 ∷ 9 ∷ 9 ∷ 9 ∷ 9 ∷ 9 ∷ []) ≡ Err (BadField 1))
     × (left_of (Time 86401) (9 ∷ 9 ∷ 9 ∷ 9 ∷ 9 ∷ 9 ∷ 9 ∷ 9 ∷ []) ≡ 9 ∷ 9 ∷ 9 ∷ 9 ∷ 9 ∷ 9 ∷ 9 ∷ 9 ∷ [])
-    × (written_of (Time 86401) [] ≡ BadField 1)
-    × (written_of (Time 86400) [] ≡ NoRoom)
+    × (written_of (Time 86401) [] ≡ Err (BadField 1))
+    × (written_of (Time 86400) [] ≡ Err NoRoom)
 unfolding written_of left_of record_of head_of bytes_of size_of le_of if_lt if_so
 time_refused = (refl, refl, refl, refl)
 
 -- out of range: a number or a Duration that the parts do not name; part 4 without part 2; an unknown component; an error with no place
 -- for one; an own number of no digits
-fields_refused : (written_of (message 5 0 (Absent 0) 0 own absent 0) [] ≡ BadField 5)
-    × (written_of (message 5 0 (Absent 0) 16 own absent 1) [] ≡ BadField 5)
-    × (written_of (message 5 0 (Absent 0) 4 absent absent 0) [] ≡ BadField 5)
-    × (written_of (message 5 0 (Unknown 5 0) 0 absent absent 0) [] ≡ BadField 3)
-    × (written_of (message 5 0 (Reject 1) 0 absent absent 0) [] ≡ BadField 4)
-    × (written_of (FromAccess 1 12) [] ≡ BadField 2)
-    × (written_of (Opening 0 0 absent) [] ≡ BadField 3)
+fields_refused : (written_of (message 5 0 (Absent 0) 0 own absent 0) [] ≡ Err (BadField 5))
+    × (written_of (message 5 0 (Absent 0) 16 own absent 1) [] ≡ Err (BadField 5))
+    × (written_of (message 5 0 (Absent 0) 4 absent absent 0) [] ≡ Err (BadField 5))
+    × (written_of (message 5 0 (Unknown 5 0) 0 absent absent 0) [] ≡ Err (BadField 3))
+    × (written_of (message 5 0 (Reject 1) 0 absent absent 0) [] ≡ Err (BadField 4))
+    × (written_of (FromAccess 1 12) [] ≡ Err (BadField 2))
+    × (written_of (Opening 0 0 absent) [] ≡ Err (BadField 3))
 unfolding message own written_of if_so
 fields_refused = (refl, refl, refl, refl, refl, refl, refl)
 
 -- a number of no digits that says it is international, whether a number is wanted there or not; and a count that is no number of digits
-digitless_refused : (written_of (Opening 0 0 digitless) [] ≡ BadField 3)
-    × (written_of (Ask 0 digitless) [] ≡ BadField 2)
-    × (written_of (Ask 2 digitless) [] ≡ BadField 2)
-    × (written_of (Ask 2 absent) [] ≡ NoRoom)
-    × (written_of (message 5 0 (Absent 0) 0 digitless absent 0) [] ≡ BadField 5)
-    × (written_of (message 5 0 (Absent 0) 0 absent digitless 0) [] ≡ BadField 5)
-    × (written_of (message 5 0 (Absent 0) 16 digitless absent 0) [] ≡ BadField 6)
-    × (written_of (message 5 0 (Absent 0) 32 absent digitless 0) [] ≡ BadField 6)
-    × (written_of (Ask 0 (record { nature = National; count = 135; value = 5550123 })) [] ≡ BadField 2)
+digitless_refused : (written_of (Opening 0 0 digitless) [] ≡ Err (BadField 3))
+    × (written_of (Ask 0 digitless) [] ≡ Err (BadField 2))
+    × (written_of (Ask 2 digitless) [] ≡ Err (BadField 2))
+    × (written_of (Ask 2 absent) [] ≡ Err NoRoom)
+    × (written_of (message 5 0 (Absent 0) 0 digitless absent 0) [] ≡ Err (BadField 5))
+    × (written_of (message 5 0 (Absent 0) 0 absent digitless 0) [] ≡ Err (BadField 5))
+    × (written_of (message 5 0 (Absent 0) 16 digitless absent 0) [] ≡ Err (BadField 6))
+    × (written_of (message 5 0 (Absent 0) 32 absent digitless 0) [] ≡ Err (BadField 6))
+    × (written_of (Ask 0 (record { nature = National; count = 135; value = 5550123 })) [] ≡ Err (BadField 2))
 unfolding message digitless written_of record_of head_of bytes_of size_of le_of if_lt if_so
 digitless_refused = (refl, refl, refl, refl, refl, refl, refl, refl, refl)
 
 -- the first of several is told: every field of an opening and of a message, then the called number behind a good calling one. What a host
 -- in C is given has the ordinal above the number
-first_refused : (written_of (Opening 2 32 digitless) [] ≡ BadField 1)
-    × (written_of (Opening 1 32 digitless) [] ≡ BadField 2)
-    × (written_of (message 6 128 (Unknown 5 0) 4 digitless digitless 1) [] ≡ BadField 1)
-    × (written_of (message 5 128 (Unknown 5 0) 4 digitless digitless 1) [] ≡ BadField 2)
-    × (written_of (message 5 0 (Absent 0) 48 own digitless 0) [] ≡ BadField 7)
+first_refused : (written_of (Opening 2 32 digitless) [] ≡ Err (BadField 1))
+    × (written_of (Opening 1 32 digitless) [] ≡ Err (BadField 2))
+    × (written_of (message 6 128 (Unknown 5 0) 4 digitless digitless 1) [] ≡ Err (BadField 1))
+    × (written_of (message 5 128 (Unknown 5 0) 4 digitless digitless 1) [] ≡ Err (BadField 2))
+    × (written_of (message 5 0 (Absent 0) 48 own digitless 0) [] ≡ Err (BadField 7))
     × (gives_back (written_of (message 5 0 (Absent 0) 48 own digitless 0) []) ≡ 1795)
 unfolding message own digitless written_of if_so
 first_refused = (refl, refl, refl, refl, refl, refl)
 
 -- in range, whatever a row would say: any Duration of 4 bytes, any error
-fields_in_range : (written_of (message 5 0 (Error 255) 64 absent absent 4294967295) [] ≡ NoRoom) × (written_of (FromAccess 2 255) [] ≡ NoRoom)
+fields_in_range : (written_of (message 5 0 (Error 255) 64 absent absent 4294967295) [] ≡ Err NoRoom) × (written_of (FromAccess 2 255) [] ≡ Err NoRoom)
 unfolding message written_of record_of head_of bytes_of size_of le_of if_lt if_so
 fields_in_range = (refl, refl)
 
@@ -264,19 +264,19 @@ unfolding plain_at plain_frame plain_of length_of le_at if_lt if_le if_eq if_so
 slotted_not_plain = refl
 
 -- just room enough; a byte more, which stays; a byte less: 8, and nothing is written; no room for the six bytes before it
-slotted_written : (written_at 5 Expiry (9 ∷ 9 ∷ 9 ∷ 9 ∷ 9 ∷ 9 ∷ 9 ∷ 9 ∷ 9 ∷ 9 ∷ []) ≡ Whole 10)
+slotted_written : (written_at 5 Expiry (9 ∷ 9 ∷ 9 ∷ 9 ∷ 9 ∷ 9 ∷ 9 ∷ 9 ∷ 9 ∷ 9 ∷ []) ≡ Ok 10)
     × (left_at 5 Expiry (9 ∷ 9 ∷ 9 ∷ 9 ∷ 9 ∷ 9 ∷ 9 ∷ 9 ∷ 9 ∷ 9 ∷ []) ≡ 8 ∷ 0 ∷ 7 ∷ 0 ∷ 5 ∷ 0 ∷ 2 ∷ 0 ∷ 5 ∷ 0 ∷ [])
     × (left_at 5 Expiry (9 ∷ 9 ∷ 9 ∷ 9 ∷ 9 ∷ 9 ∷ 9 ∷ 9 ∷ 9 ∷ 9 ∷ 9 ∷ []) ≡ 8 ∷ 0 ∷ 7 ∷ 0 ∷ 5 ∷ 0 ∷ 2 ∷ 0 ∷ 5 ∷ 0 ∷ 9 ∷ [])
-    × (written_at 5 Expiry (9 ∷ 9 ∷ 9 ∷ 9 ∷ 9 ∷ 9 ∷ 9 ∷ 9 ∷ 9 ∷ []) ≡ NoRoom)
+    × (written_at 5 Expiry (9 ∷ 9 ∷ 9 ∷ 9 ∷ 9 ∷ 9 ∷ 9 ∷ 9 ∷ 9 ∷ []) ≡ Err NoRoom)
     × (left_at 5 Expiry (9 ∷ 9 ∷ 9 ∷ 9 ∷ 9 ∷ 9 ∷ 9 ∷ 9 ∷ 9 ∷ []) ≡ 9 ∷ 9 ∷ 9 ∷ 9 ∷ 9 ∷ 9 ∷ 9 ∷ 9 ∷ 9 ∷ [])
-    × (written_at 5 Expiry (9 ∷ 9 ∷ 9 ∷ 9 ∷ 9 ∷ []) ≡ NoRoom)
+    × (written_at 5 Expiry (9 ∷ 9 ∷ 9 ∷ 9 ∷ 9 ∷ []) ≡ Err NoRoom)
 unfolding written_at left_at slotted_of slot_head record_of head_of bytes_of size_of le_of if_lt if_so
 slotted_written = (refl, refl, refl, refl, refl, refl)
 
 -- 3 comes before 8, with the ordinal in the inner body; no slot of two bytes is refused, since it is the board that says 19
-slotted_refused : (written_at 5 (Time 86401) [] ≡ BadField 1)
-    × (written_at 5 (Opening 0 0 absent) [] ≡ BadField 3)
-    × (written_at 65535 Expiry (9 ∷ 9 ∷ 9 ∷ 9 ∷ 9 ∷ 9 ∷ 9 ∷ 9 ∷ 9 ∷ 9 ∷ []) ≡ Whole 10)
+slotted_refused : (written_at 5 (Time 86401) [] ≡ Err (BadField 1))
+    × (written_at 5 (Opening 0 0 absent) [] ≡ Err (BadField 3))
+    × (written_at 65535 Expiry (9 ∷ 9 ∷ 9 ∷ 9 ∷ 9 ∷ 9 ∷ 9 ∷ 9 ∷ 9 ∷ 9 ∷ []) ≡ Ok 10)
 unfolding written_at slotted_of slot_head record_of head_of bytes_of size_of le_of if_lt if_so
 slotted_refused = (refl, refl, refl)
 

@@ -1,7 +1,7 @@
 -- Any two results that a contract of `files` allows are the same: a law for each form that is not already in the Same.antt of `text`
 -- (`same`: `read_at`, `found_at`, `take_at`, `left`, `count_records`; `put_same`: the functions that put text or bytes).
 -- Assumes nothing.
-use Rattle.std.proofs.Common.{◌≡◌, ℕ, Bool, true, false, List, sym, refl, ap, ◌∙◌, Bor}
+use Rattle.std.proofs.Common.{◌≡◌, ℕ, Result, Bool, true, false, List, sym, refl, ap, ◌∙◌, Bor}
 use Rattle.text.proofs.Same.{same}
 use Rattle.rows.specs.declared.Event.{Event}
 use Rattle.files.specs.Bodies.{read_at, plain_at}
@@ -13,7 +13,7 @@ use Rattle.files.specs.declared.Read.{Read}
 use Rattle.files.specs.declared.Reader.{Reader}
 use Rattle.files.specs.declared.Where.{Where}
 use Rattle.files.specs.declared.Where.TheVariants.{Plain, Slot}
-use Rattle.files.specs.declared.Written.{Written}
+use Rattle.files.specs.declared.Unwritten.{Unwritten}
 
 -- What `rev_listing` and `rev_dump` say, t being the listing or the dump: the number given back, and the bytes that the buffer then holds.
 abbrev pub Fitted : List ℕ → List ℕ → List ℕ → ℕ → List ℕ → Type 0
@@ -54,7 +54,7 @@ pub moved_same : (before : Reader) {f f' : Read} {after after' : Reader} →
 moved_same before p q = (same p.0 q.0, reader_is (same p.1 q.1) (same p.2 q.2))
 
 -- What `write_event` says of a plain record, and `write_at_slot` of one of kind 7: the answer, and the bytes that the buffer then holds.
-abbrev pub answered_of : Where → Event → List ℕ → Written
+abbrev pub answered_of : Where → Event → List ℕ → Result ℕ Unwritten
 answered_of Plain e old = written_of e old
 answered_of (Slot i) e old = written_at i e old
 
@@ -62,7 +62,7 @@ abbrev pub held_of : Where → Event → List ℕ → List ℕ
 held_of Plain e old = left_of e old
 held_of (Slot i) e old = left_at i e old
 
-abbrev pub Wrote : Where → Event → List ℕ → Written → List ℕ → Type 0
+abbrev pub Wrote : Where → Event → List ℕ → Result ℕ Unwritten → List ℕ → Type 0
 Wrote w e old a new = (a ≡ answered_of w e old) × (new ≡ held_of w e old)
 
 -- What the `rev_write_` functions say of their event: the number and the ordinal of that answer, and the same bytes.
@@ -74,7 +74,7 @@ abbrev pub HandedOver : List ℕ → ℕ → List ℕ → ℕ → List ℕ → T
 HandedOver inner i old r new = (r ≡ slot_gives (plain_at inner 0) i old) × (new ≡ slot_leaves (plain_at inner 0) i old)
 
 -- For one event, one slot and one buffer there is one answer, one number, and one content of the buffer after it.
-pub wrote_same : (w : Where) (e : Event) (old : List ℕ) {a a' : Written} {new new' : List ℕ} →
+pub wrote_same : (w : Where) (e : Event) (old : List ℕ) {a a' : Result ℕ Unwritten} {new new' : List ℕ} →
     Wrote w e old a new → Wrote w e old a' new' → (a ≡ a') × (new ≡ new')
 wrote_same w e old p q = both_same p q
 

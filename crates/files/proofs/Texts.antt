@@ -12,21 +12,14 @@ use Rattle.files.specs.Lines.{slot_text, action_text}
 pub action_by : (m : Note) (x y : Act) (a b : List ℕ) (i j : ℕ) → x ≡ y → Put a i (action_text m y) b j → Put a i (action_text m x) b j
 action_by m x y a b i j e p = put_by (action_text m) x y a b i j e p
 
-pub slot_shown : (r : Bool) (n : ℕ) (a b : List ℕ) (i j : ℕ) → r ≡ true → Put a i (slot_text true n) b j → Put a i (slot_text r n) b j
-slot_shown r n a b i j e p = put_by (λ (x : Bool). slot_text x n) r true a b i j e p
-
-pub slot_hidden : (r : Bool) (n : ℕ) (a : List ℕ) (i : ℕ) → r ≡ false → Put a i (slot_text r n) a i
-slot_hidden r n a i e = put_by (λ (x : Bool). slot_text x n) r false a a i i e (put_none a i)
-
 pub put_below : (m n : ℕ) (a b s t : List ℕ) (i j : ℕ) → m < n → Put a i s b j → Put a i (if_lt m n s t) b j
 put_below m n a b s t i j h p = put_as (yes_lt m n s s t h refl) p
 
 pub put_above : (m n : ℕ) (a b s t : List ℕ) (i j : ℕ) → n ≤ m → Put a i t b j → Put a i (if_lt m n s t) b j
 put_above m n a b s t i j h p = put_as (no_lt m n t s t h refl) p
 
--- r: what a call answered
-pub put_so : (r x : Bool) (a b s t : List ℕ) (i j : ℕ) → r ≡ x → r ≡ true → Put a i s b j → Put a i (if_so x s t) b j
-put_so r x a b s t i j e h p = put_as (yes_so x s s t (sym e ∙ h) refl) p
+pub put_so : (x : Bool) (a b s t : List ℕ) (i j : ℕ) → x ≡ true → Put a i s b j → Put a i (if_so x s t) b j
+put_so x a b s t i j h p = put_as (yes_so x s s t h refl) p
 
-pub put_not : (r x : Bool) (a b s t : List ℕ) (i j : ℕ) → r ≡ x → r ≡ false → Put a i t b j → Put a i (if_so x s t) b j
-put_not r x a b s t i j e h p = put_as (no_so x t s t (sym e ∙ h) refl) p
+pub put_not : (x : Bool) (a b s t : List ℕ) (i j : ℕ) → x ≡ false → Put a i t b j → Put a i (if_so x s t) b j
+put_not x a b s t i j h p = put_as (no_so x t s t h refl) p

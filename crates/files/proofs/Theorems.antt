@@ -6,7 +6,7 @@
 -- which actions send a message, what two messages name, and what may follow a number, in Apart.antt (`is_message`, `NamedSame`, `Spaced`)
 -- and in `text` (`NoDigit`).
 -- Assumes nothing.
-use Rattle.std.proofs.Common.{◌≡◌, ℕ, ◌+◌, ◌-◌, ◌<◌, ◌≤◌, Bool, true, false, ◌⊎◌, ◌↔◌, List, [], ◌∷◌, ◌++◌, length, take, drop, refl}
+use Rattle.std.proofs.Common.{◌≡◌, ℕ, Result, Ok, ◌+◌, ◌-◌, ◌<◌, ◌≤◌, Bool, true, false, ◌⊎◌, ◌↔◌, List, [], ◌∷◌, ◌++◌, length, take, drop, refl}
 use mathlib.Core.Option.{some}
 use lib.ListN.{get_elem?}
 use Rattle.rows.specs.Bill.{line}
@@ -36,8 +36,7 @@ use Rattle.files.specs.Write.{number_of, bytes_written, gives_back, number_with,
 use Rattle.files.specs.declared.Read.{Read}
 use Rattle.files.specs.declared.Where.{Where}
 use Rattle.files.specs.declared.Where.TheVariants.{Plain, Slot}
-use Rattle.files.specs.declared.Written.{Written}
-use Rattle.files.specs.declared.Written.TheVariants.{Whole}
+use Rattle.files.specs.declared.Unwritten.{Unwritten}
 use Rattle.files.proofs.Apart
 use Rattle.files.proofs.Apart.{is_message, NamedSame, Spaced}
 use Rattle.files.proofs.Billed
@@ -129,7 +128,7 @@ dump_eight = Eight.dump_eight
 pub host_writes : (w : Where) (e : Event) (old : List ℕ) (r : ℕ) (new : List ℕ) → Numbered w e old r new → Writes w e old r new
 host_writes = HostWrites.host_writes
 
-pub event_written : (w : Where) (e : Event) (old : List ℕ) (a : Written) (new : List ℕ) → Wrote w e old a new →
+pub event_written : (w : Where) (e : Event) (old : List ℕ) (a : Result ℕ Unwritten) (new : List ℕ) → Wrote w e old a new →
     Writes w e old (gives_back a) new × (number_of a ≡ 0 → bytes_written a ≡ length (entry_of w e))
 event_written = HostWrites.event_written
 
@@ -152,7 +151,7 @@ written_reads_back = BothWays.written_reads_back
 -- What the reader accepts with every field in range, the writer writes back byte for byte, wherever there is room for it ..
 pub read_then_written : (s : List ℕ) → AllBytes s → (at next : ℕ) (w : Where) (e : Event) → read_at s at ≡ Read.Got w e next → event_ok e ≡ true →
     (old : List ℕ) → next - at ≤ length old →
-    (answered_of w e old ≡ Whole (next - at)) × (held_of w e old ≡ take (next - at) (drop at s) ++ drop (next - at) old)
+    (answered_of w e old ≡ Ok (next - at)) × (held_of w e old ≡ take (next - at) (drop at s) ++ drop (next - at) old)
 read_then_written = HostWrites.read_then_written
 
 -- .. and, in range or not, what the reader accepts is the record of the event that it gives.

@@ -2,7 +2,7 @@
 -- buffer unchanged, and so is a record longer than the room in it. Refusals: 3, then 8." 02 #106: "Where 3 is told, give the field's ordinal
 -- in the body as well, first bad field first".
 -- Assumes nothing.
-use Rattle.std.specs.Prelude.{ℕ, ◌+◌, ◌*◌, Bool, true, false, List, ◌++◌, length, drop}
+use Rattle.std.specs.Prelude.{ℕ, ◌+◌, ◌*◌, Bool, true, false, List, ◌++◌, length, drop, Result, Ok, Err}
 use Rattle.text.specs.Choose.{if_lt, if_so}
 use Rattle.rows.specs.Valid.{event_ok, bad_field_of}
 use Rattle.rows.specs.declared.Event.{Event}
@@ -13,12 +13,12 @@ use Rattle.rows.specs.declared.Number.{Number}
 use Rattle.files.specs.Bodies.{component_of, record_of, slotted_of}
 use Rattle.files.specs.Frames.{cut_short}
 use Rattle.files.specs.declared.Read.{Read}
-use Rattle.files.specs.declared.Written.{Written}
-use Rattle.files.specs.declared.Written.TheVariants.{Whole, BadField, NoRoom}
+use Rattle.files.specs.declared.Unwritten.{Unwritten}
+use Rattle.files.specs.declared.Unwritten.TheVariants.{BadField, NoRoom}
 
 -- the whole record with its length, or why it was not written: the fields are judged first
-unfoldable pub written_of : Event → List ℕ → Written
-written_of e out = if_so (event_ok e) (if_lt (length out) (length (record_of e)) NoRoom (Whole (length (record_of e)))) (BadField (bad_field_of e))
+unfoldable pub written_of : Event → List ℕ → Result ℕ Unwritten
+written_of e out = if_so (event_ok e) (if_lt (length out) (length (record_of e)) (Err NoRoom) (Ok (length (record_of e)))) (Err (BadField (bad_field_of e)))
 
 -- the record, then the bytes that stood there; on a refusal every byte as it was
 unfoldable pub left_of : Event → List ℕ → List ℕ
@@ -26,11 +26,11 @@ left_of e out = if_so (event_ok e) (if_lt (length out) (length (record_of e)) ou
 
 -- The same of a record of kind 7 at the slot i. 02 #107: "two bytes of slot, then a whole inner record": the fields are those of the inner
 -- body, and any slot of two bytes is written, since it is the board that says 19
-unfoldable pub written_at : ℕ → Event → List ℕ → Written
+unfoldable pub written_at : ℕ → Event → List ℕ → Result ℕ Unwritten
 written_at i e out =
     if_so (event_ok e)
-    (if_lt (length out) (length (slotted_of i (record_of e))) NoRoom (Whole (length (slotted_of i (record_of e)))))
-    (BadField (bad_field_of e))
+    (if_lt (length out) (length (slotted_of i (record_of e))) (Err NoRoom) (Ok (length (slotted_of i (record_of e)))))
+    (Err (BadField (bad_field_of e)))
 
 unfoldable pub left_at : ℕ → Event → List ℕ → List ℕ
 left_at i e out =
@@ -39,24 +39,24 @@ left_at i e out =
     out
 
 -- the number of each answer, the ordinal of the field that it tells, which is 0 beside every number but 3, and how many bytes it wrote
-abbrev pub number_of : Written → ℕ
-number_of (Whole n) = 0
-number_of (BadField k) = 3
-number_of NoRoom = 8
+abbrev pub number_of : Result ℕ Unwritten → ℕ
+number_of (Ok n) = 0
+number_of (Err (BadField k)) = 3
+number_of (Err NoRoom) = 8
 
-abbrev pub field_of : Written → ℕ
-field_of (Whole n) = 0
-field_of (BadField k) = k
-field_of NoRoom = 0
+abbrev pub field_of : Result ℕ Unwritten → ℕ
+field_of (Ok n) = 0
+field_of (Err (BadField k)) = k
+field_of (Err NoRoom) = 0
 
-abbrev pub bytes_written : Written → ℕ
-bytes_written (Whole n) = n
-bytes_written (BadField k) = 0
-bytes_written NoRoom = 0
+abbrev pub bytes_written : Result ℕ Unwritten → ℕ
+bytes_written (Ok n) = n
+bytes_written (Err (BadField k)) = 0
+bytes_written (Err NoRoom) = 0
 
 -- what a host in C is given back: number and ordinal in one
-abbrev pub gives_back : Written → ℕ
-gives_back w = number_of w + 256 * field_of w
+abbrev pub gives_back : Result ℕ Unwritten → ℕ
+gives_back answer = number_of answer + 256 * field_of answer
 
 -- ---- a host in C hands over a plain record, to stand inside one of kind 7: why it cannot be read, or what is answered to its event; an
 -- empty one lacks its length

@@ -63,11 +63,10 @@ pub struct Reader<'a> {
     pub at: usize,
 }
 
-// What the writer of events answers: it wrote a whole record, of so many bytes; or why it wrote nothing, of a field out of its range
-// the ordinal in the body, from 1.
-#[derive(Clone, Copy)]
-pub enum Written {
-    Whole(usize),
+// Why the writer of events wrote nothing: a field out of its range, of which this is the ordinal in the body, from 1; or no room for the
+// whole record.
+#[derive(Clone, Copy, PartialEq, Eq)]
+pub enum Unwritten {
     BadField(u8),
     NoRoom,
 }

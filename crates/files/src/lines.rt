@@ -1,5 +1,5 @@
 // The lines of a listing: a record's, an action's, the last.
-ghost use Rattle.std.specs.Prelude.{◌+◌, ◌^◌, ◌<◌, ◌≤◌, length};
+ghost use Rattle.std.specs.Prelude.{◌≡◌, ◌+◌, ◌^◌, ◌<◌, ◌≤◌, length};
 ghost use Rattle.text.specs.Text.{Put};
 ghost use Rattle.files.specs.Lines.{phase_text, rev_text, stand_text, meters_text, slot_text, line_text, numbered_line, action_text, actions_text};
 ghost use Rattle.files.specs.Lines.{record_text, longest_record};
@@ -8,34 +8,32 @@ use crate::messages::{put_released, put_sent};
 use meters::Meters;
 use rows::{APPLIED, Act, Call, Note, Outcome, Phase, RevState, Stand};
 
-fn put_phase(out: &mut [u8], at: usize, phase: Phase) -> usize
-    requires { at < 2 ^ 60 }
-    ensures put { Put out.old at (phase_text phase) out.new result }
-    ensures upper_bound { result ≤ at + 9 }
+fn phase_word(phase: Phase) -> &'static [u8]
+    ensures word { result.now ≡ phase_text phase }
+    ensures upper_bound { length result.now ≤ 9 }
 {
     match phase {
-        Phase::Unopened => text::put_word(out, at, b" NONE"),
-        Phase::Null => text::put_word(out, at, b" NULL"),
-        Phase::Setup => text::put_word(out, at, b" SETUP"),
-        Phase::Answered => text::put_word(out, at, b" ANSWERED"),
-        Phase::Cleared => text::put_word(out, at, b" CLEARED"),
+        Phase::Unopened => b" NONE",
+        Phase::Null => b" NULL",
+        Phase::Setup => b" SETUP",
+        Phase::Answered => b" ANSWERED",
+        Phase::Cleared => b" CLEARED",
     }
 }
 
-fn put_rev(out: &mut [u8], at: usize, rev: RevState) -> usize
-    requires { at < 2 ^ 60 }
-    ensures put { Put out.old at (rev_text rev) out.new result }
-    ensures upper_bound { result ≤ at + 17 }
+fn rev_word(rev: RevState) -> &'static [u8]
+    ensures word { result.now ≡ rev_text rev }
+    ensures upper_bound { length result.now ≤ 17 }
 {
     match rev {
-        RevState::Idle => text::put_word(out, at, b" IDLE"),
-        RevState::WaitSetup => text::put_word(out, at, b" WAIT-SETUP"),
-        RevState::WaitActive => text::put_word(out, at, b" WAIT-ACTIVE"),
-        RevState::WaitAnswer => text::put_word(out, at, b" WAIT-ANSWER"),
-        RevState::Active => text::put_word(out, at, b" ACTIVE"),
-        RevState::WaitSetupConf => text::put_word(out, at, b" WAIT-SETUP-CONF"),
-        RevState::WaitActiveConf => text::put_word(out, at, b" WAIT-ACTIVE-CONF"),
-        RevState::WaitCalled => text::put_word(out, at, b" WAIT-CALLED"),
+        RevState::Idle => b" IDLE",
+        RevState::WaitSetup => b" WAIT-SETUP",
+        RevState::WaitActive => b" WAIT-ACTIVE",
+        RevState::WaitAnswer => b" WAIT-ANSWER",
+        RevState::Active => b" ACTIVE",
+        RevState::WaitSetupConf => b" WAIT-SETUP-CONF",
+        RevState::WaitActiveConf => b" WAIT-ACTIVE-CONF",
+        RevState::WaitCalled => b" WAIT-CALLED",
     }
 }
 
@@ -44,10 +42,8 @@ fn put_stand(out: &mut [u8], at: usize, stand: Stand) -> usize
     ensures put { Put out.old at (stand_text stand) out.new result }
     ensures upper_bound { result ≤ at + 26 }
 {
-    let phase = stand.phase;
-    let rev = stand.rev;
-    let to = put_phase(out, at, phase);
-    put_rev(out, to, rev)
+    let to = text::put_word(out, at, phase_word(stand.phase));
+    text::put_word(out, to, rev_word(stand.rev))
 }
 
 fn put_meters(out: &mut [u8], at: usize, m: Meters) -> usize
@@ -66,10 +62,7 @@ fn put_slot(out: &mut [u8], at: usize, slots: bool, slot: u32) -> usize
     ensures put { Put out.old at (slot_text slots slot) out.new result }
     ensures upper_bound { result ≤ at + 11 }
 {
-    if slots {
-        return text::put_numbered(out, at, b" ", slot);
-    }
-    at
+    if slots { text::put_numbered(out, at, b" ", slot) } else { at }
 }
 
 // A record's line: its ordinal, its slot, its number, and the call after it.
@@ -86,13 +79,11 @@ fn put_line(
     ensures put { Put out.old at (line_text ordinal slots slot number call) out.new result }
     ensures upper_bound { result ≤ at + 92 }
 {
-    let stand = call.stand;
-    let meters = call.meters;
     let mut to = text::put_dec(out, at, ordinal);
     to = put_slot(out, to, slots, slot);
     to = text::put_numbered(out, to, b" ", number as u32);
-    to = put_stand(out, to, stand);
-    to = put_meters(out, to, meters);
+    to = put_stand(out, to, call.stand);
+    to = put_meters(out, to, call.meters);
     text::put(out, to, b'\n')
 }
 
@@ -134,15 +125,10 @@ fn put_actions(out: &mut [u8], at: usize, o: Outcome) -> usize
     ensures put { Put out.old at (actions_text o) out.new result }
     ensures upper_bound { result ≤ at + 2484 }
 {
-    let m = o.note;
-    let first = o.first;
-    let second = o.second;
-    let third = o.third;
-    let fourth = o.fourth;
-    let mut to = put_action(out, at, first, m);
-    to = put_action(out, to, second, m);
-    to = put_action(out, to, third, m);
-    put_action(out, to, fourth, m)
+    let mut to = put_action(out, at, o.first, o.note);
+    to = put_action(out, to, o.second, o.note);
+    to = put_action(out, to, o.third, o.note);
+    put_action(out, to, o.fourth, o.note)
 }
 
 // A record's line and, where a row was applied, its actions.
@@ -158,10 +144,6 @@ pub(crate) fn put_record(
     ensures put { Put out.old at (record_text ordinal slots slot o) out.new result }
     ensures upper_bound { result ≤ at + longest_record }
 {
-    let call = o.call;
-    let end = put_line(out, at, ordinal, slots, slot, o.number, call);
-    if o.number == APPLIED {
-        return put_actions(out, end, o);
-    }
-    end
+    let end = put_line(out, at, ordinal, slots, slot, o.number, o.call);
+    if o.number == APPLIED { put_actions(out, end, o) } else { end }
 }

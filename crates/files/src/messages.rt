@@ -1,24 +1,22 @@
 // The line of a message that is sent: its name, for REL its cause, its component, its parts in bit order.
-ghost use Rattle.std.specs.Prelude.{◌+◌, ◌^◌, ◌<◌, ◌≤◌, length};
+ghost use Rattle.std.specs.Prelude.{◌≡◌, ◌+◌, ◌^◌, ◌<◌, ◌≤◌, [], length};
+ghost use Rattle.text.specs.Choose.{if_so};
 ghost use Rattle.text.specs.Text.{Put, ascii, numbered};
-ghost use Rattle.files.specs.Messages.{operation_text, with_operation, component_text, text_if, sign_text, number_text};
+ghost use Rattle.files.specs.Messages.{operation_text, with_operation, component_text, sign_text, number_text};
 ghost use Rattle.files.specs.Messages.{with_digits, parts_text, values_text};
 ghost use Rattle.files.specs.Messages.{carried_text, sent_text, released_text};
 
 use rows::{Component, Nature, Note, Number};
 
-pub(crate) fn put_operation(out: &mut [u8], at: usize, operation: u8) -> usize
-    requires { at < 2 ^ 61 }
-    ensures put { Put out.old at (operation_text operation) out.new result }
-    ensures upper_bound { result ≤ at + 7 }
+pub(crate) fn operation_word(operation: u8) -> &'static [u8]
+    ensures word { result.now ≡ operation_text operation }
+    ensures upper_bound { length result.now ≤ 7 }
 {
-    if operation == 1 {
-        return text::put_word(out, at, b" SETUP");
+    match operation {
+        1 => b" SETUP",
+        2 => b" ACTIVE",
+        _ => b" CALLED",
     }
-    if operation == 2 {
-        return text::put_word(out, at, b" ACTIVE");
-    }
-    text::put_word(out, at, b" CALLED")
 }
 
 // A word and an operation.
@@ -28,7 +26,7 @@ fn put_with_operation(out: &mut [u8], at: usize, word: &[u8], operation: u8) -> 
     ensures upper_bound { result ≤ at + length word.now + 7 }
 {
     let to = text::put_word(out, at, word);
-    put_operation(out, to, operation)
+    text::put_word(out, to, operation_word(operation))
 }
 
 // A component that no row sends has no text.
@@ -38,25 +36,20 @@ fn put_component(out: &mut [u8], at: usize, component: Component) -> usize
     ensures upper_bound { result ≤ at + 17 }
 {
     match component {
-        Component::Absent(_) => at,
         Component::Invoke(operation) => put_with_operation(out, at, b" INVOKE", operation),
         Component::Result(operation) => put_with_operation(out, at, b" RESULT", operation),
         Component::Error(n) => text::put_numbered(out, at, b" ERROR ", n as u32),
-        Component::Reject(_) => at,
-        Component::Unknown(_, _) => at,
+        Component::Absent(_) | Component::Reject(_) | Component::Unknown(_, _) => at,
     }
 }
 
 // A word where its part is present.
-pub(crate) fn put_if(out: &mut [u8], at: usize, present: u8, word: &[u8]) -> usize
+pub(crate) fn put_if(out: &mut [u8], at: usize, present: bool, word: &[u8]) -> usize
     requires { at + length word.now < 2 ^ 61 }
-    ensures put { Put out.old at (text_if present word.now) out.new result }
+    ensures put { Put out.old at (if_so present word.now []) out.new result }
     ensures upper_bound { result ≤ at + length word.now }
 {
-    if present == 1 {
-        return text::put_word(out, at, word);
-    }
-    at
+    if present { text::put_word(out, at, word) } else { at }
 }
 
 // Before the digits: what tells an international number from a national one.
@@ -77,10 +70,8 @@ fn put_number(out: &mut [u8], at: usize, n: Number) -> usize
     ensures put { Put out.old at (number_text n) out.new result }
     ensures upper_bound { result ≤ at + 256 }
 {
-    let nature = n.nature;
-    let count = n.count as usize;
-    let to = put_sign(out, at, nature);
-    text::put_digits(out, to, n.value, count)
+    let to = put_sign(out, at, n.nature);
+    text::put_digits(out, to, n.value, n.count as usize)
 }
 
 // A word and a number.
@@ -94,26 +85,24 @@ pub(crate) fn put_with_digits(out: &mut [u8], at: usize, word: &[u8], n: Number)
 }
 
 // A number where its part is present.
-fn put_digits_if(out: &mut [u8], at: usize, present: u8, word: &[u8], n: Number) -> usize
+fn put_digits_if(out: &mut [u8], at: usize, present: bool, word: &[u8], n: Number) -> usize
     requires { at + length word.now < 2 ^ 61 }
-    ensures put { Put out.old at (text_if present (with_digits word.now n)) out.new result }
+    ensures put { Put out.old at (if_so present (with_digits word.now n) []) out.new result }
     ensures upper_bound { result ≤ at + length word.now + 256 }
 {
-    if present == 1 {
-        return put_with_digits(out, at, word, n);
-    }
-    at
+    if present { put_with_digits(out, at, word, n) } else { at }
 }
 
-pub(crate) fn put_duration_if(out: &mut [u8], at: usize, present: u8, seconds: u32) -> usize
+pub(crate) fn put_duration_if(out: &mut [u8], at: usize, present: bool, seconds: u32) -> usize
     requires { at < 2 ^ 61 }
-    ensures put { Put out.old at (text_if present (numbered (ascii " DURATION ") seconds)) out.new result }
+    ensures put { Put out.old at (if_so present (numbered (ascii " DURATION ") seconds) []) out.new result }
     ensures upper_bound { result ≤ at + 20 }
 {
-    if present == 1 {
-        return text::put_numbered(out, at, b" DURATION ", seconds);
+    if present {
+        text::put_numbered(out, at, b" DURATION ", seconds)
+    } else {
+        at
     }
-    at
 }
 
 // The parts that are words alone.
@@ -122,10 +111,10 @@ pub(crate) fn put_parts(out: &mut [u8], at: usize, parts: u8) -> usize
     ensures put { Put out.old at (parts_text parts) out.new result }
     ensures upper_bound { result ≤ at + 38 }
 {
-    let mut to = put_if(out, at, parts / 1 % 2, b" TRANSFER");
-    to = put_if(out, to, parts / 2 % 2, b" ACCEPTED");
-    to = put_if(out, to, parts / 4 % 2, b" AS-TRANSFER");
-    put_if(out, to, parts / 8 % 2, b" PARTIAL")
+    let mut to = put_if(out, at, parts / 1 % 2 == 1, b" TRANSFER");
+    to = put_if(out, to, parts / 2 % 2 == 1, b" ACCEPTED");
+    to = put_if(out, to, parts / 4 % 2 == 1, b" AS-TRANSFER");
+    put_if(out, to, parts / 8 % 2 == 1, b" PARTIAL")
 }
 
 // The parts that have a value.
@@ -134,12 +123,9 @@ fn put_values(out: &mut [u8], at: usize, m: Note) -> usize
     ensures put { Put out.old at (values_text m) out.new result }
     ensures upper_bound { result ≤ at + 549 }
 {
-    let calling = m.calling;
-    let called = m.called;
-    let parts = m.parts;
-    let mut to = put_digits_if(out, at, parts / 16 % 2, b" CALLING ", calling);
-    to = put_digits_if(out, to, parts / 32 % 2, b" CALLED ", called);
-    put_duration_if(out, to, parts / 64 % 2, m.duration)
+    let mut to = put_digits_if(out, at, m.parts / 16 % 2 == 1, b" CALLING ", m.calling);
+    to = put_digits_if(out, to, m.parts / 32 % 2 == 1, b" CALLED ", m.called);
+    put_duration_if(out, to, m.parts / 64 % 2 == 1, m.duration)
 }
 
 // What stands after a message's name, to the end of its line.
@@ -148,8 +134,7 @@ fn put_carried(out: &mut [u8], at: usize, m: Note) -> usize
     ensures put { Put out.old at (carried_text m) out.new result }
     ensures upper_bound { result ≤ at + 605 }
 {
-    let component = m.component;
-    let mut to = put_component(out, at, component);
+    let mut to = put_component(out, at, m.component);
     to = put_parts(out, to, m.parts);
     to = put_values(out, to, m);
     text::put(out, to, b'\n')

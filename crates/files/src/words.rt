@@ -1,15 +1,15 @@
 // What a record says, in words, for the dump: each field has its word, or its number where it is out of its range.
-ghost use Rattle.std.specs.Prelude.{◌≡◌, ◌+◌, ◌^◌, ◌<◌, ◌≤◌, true, ◌++◌, length};
+ghost use Rattle.std.specs.Prelude.{◌≡◌, ◌+◌, ◌^◌, ◌<◌, ◌≤◌, true, [], ◌++◌, length};
+ghost use Rattle.text.specs.Choose.{if_so};
 ghost use Rattle.text.specs.Text.{Put, ascii};
-ghost use Rattle.files.specs.Messages.{text_if};
-ghost use Rattle.files.specs.Words.{code_word, digits_word, value_text, counted_word, number_word, role_word, comma_text, flag_text};
+ghost use Rattle.files.specs.Words.{code_word, digits_word, value_text, counted_word, number_word, role_word, comma_text};
 ghost use Rattle.files.specs.Words.{flags_text, flags_word, opening_words, asked_word, ask_words, name_word, operation_word};
 ghost use Rattle.files.specs.Words.{with_operation_word, unless_zero, reject_words, unknown_words, component_words, with_number};
 ghost use Rattle.files.specs.Words.{values_words, message_words, told_word, access_words, event_words, where_words, entry_words, Says};
 
 use crate::Where;
 use crate::messages::{
-    put_duration_if, put_if, put_operation, put_parts, put_sign, put_with_digits,
+    operation_word, put_duration_if, put_if, put_parts, put_sign, put_with_digits,
 };
 use rows::{Component, Event, Message, Number};
 
@@ -29,9 +29,10 @@ fn put_digits_word(out: &mut [u8], at: usize, n: Number) -> usize
     ensures upper_bound { result ≤ at + 257 }
 {
     if n.count == 0 {
-        return text::put_word(out, at, b" -");
+        text::put_word(out, at, b" -")
+    } else {
+        put_with_digits(out, at, b" ", n)
     }
-    put_with_digits(out, at, b" ", n)
 }
 
 // A value in decimal: the last 9 or 18 digits apart, since the first are a number of 32 bits then.
@@ -41,14 +42,14 @@ fn put_value(out: &mut [u8], at: usize, n: u64) -> usize
     ensures upper_bound { result ≤ at + 28 }
 {
     if n < 1000000000 {
-        return text::put_dec(out, at, n as u32);
-    }
-    if n < 1000000000000000000 {
+        text::put_dec(out, at, n as u32)
+    } else if n < 1000000000000000000 {
         let to = text::put_dec(out, at, (n / 1000000000) as u32);
-        return text::put_digits(out, to, n, 9);
+        text::put_digits(out, to, n, 9)
+    } else {
+        let to = text::put_dec(out, at, (n / 1000000000000000000) as u32);
+        text::put_digits(out, to, n, 18)
     }
-    let to = text::put_dec(out, at, (n / 1000000000000000000) as u32);
-    text::put_digits(out, to, n, 18)
 }
 
 // One out of range: its sign, its count and its value.
@@ -57,9 +58,8 @@ fn put_counted_word(out: &mut [u8], at: usize, n: Number) -> usize
     ensures put { Put out.old at (counted_word n) out.new result }
     ensures upper_bound { result ≤ at + 41 }
 {
-    let nature = n.nature;
     let mut to = text::put(out, at, b' ');
-    to = put_sign(out, to, nature);
+    to = put_sign(out, to, n.nature);
     to = text::put_dec(out, to, n.count as u32);
     to = text::put(out, to, b':');
     put_value(out, to, n.value)
@@ -71,9 +71,10 @@ fn put_number(out: &mut [u8], at: usize, n: Number) -> usize
     ensures upper_bound { result ≤ at + 257 }
 {
     if rows::in_range(n) {
-        return put_digits_word(out, at, n);
+        put_digits_word(out, at, n)
+    } else {
+        put_counted_word(out, at, n)
     }
-    put_counted_word(out, at, n)
 }
 
 fn put_role(out: &mut [u8], at: usize, role: u8) -> usize
@@ -81,13 +82,11 @@ fn put_role(out: &mut [u8], at: usize, role: u8) -> usize
     ensures put { Put out.old at (role_word role) out.new result }
     ensures upper_bound { result ≤ at + 12 }
 {
-    if role == 0 {
-        return text::put_word(out, at, b" originating");
+    match role {
+        0 => text::put_word(out, at, b" originating"),
+        1 => text::put_word(out, at, b" destination"),
+        _ => put_code(out, at, role),
     }
-    if role == 1 {
-        return text::put_word(out, at, b" destination");
-    }
-    put_code(out, at, role)
 }
 
 // Before a flag: a comma where another came before it.
@@ -96,23 +95,21 @@ fn put_comma(out: &mut [u8], at: usize, before: u8) -> usize
     ensures put { Put out.old at (comma_text before) out.new result }
     ensures upper_bound { result ≤ at + 1 }
 {
-    if before == 0 {
-        return text::put_word(out, at, b" ");
-    }
-    text::put_word(out, at, b",")
+    text::put(out, at, if before == 0 { b' ' } else { b',' })
 }
 
 // A flag that is set. before: those before it.
-fn put_flag(out: &mut [u8], at: usize, present: u8, before: u8, word: &[u8]) -> usize
+fn put_flag(out: &mut [u8], at: usize, present: bool, before: u8, word: &[u8]) -> usize
     requires { at + length word.now < 2 ^ 60 }
-    ensures put { Put out.old at (flag_text present before word.now) out.new result }
+    ensures put { Put out.old at (if_so present (comma_text before ++ word.now) []) out.new result }
     ensures upper_bound { result ≤ at + length word.now + 1 }
 {
-    if present == 1 {
+    if present {
         let to = put_comma(out, at, before);
-        return text::put_word(out, to, word);
+        text::put_word(out, to, word)
+    } else {
+        at
     }
-    at
 }
 
 fn put_set_flags(out: &mut [u8], at: usize, flags: u8) -> usize
@@ -120,11 +117,11 @@ fn put_set_flags(out: &mut [u8], at: usize, flags: u8) -> usize
     ensures put { Put out.old at (flags_text flags) out.new result }
     ensures upper_bound { result ≤ at + 46 }
 {
-    let mut to = put_flag(out, at, flags / 1 % 2, flags % 1, b"transfer");
-    to = put_flag(out, to, flags / 2 % 2, flags % 2, b"option");
-    to = put_flag(out, to, flags / 4 % 2, flags % 4, b"subscribed");
-    to = put_flag(out, to, flags / 8 % 2, flags % 8, b"interaction");
-    put_flag(out, to, flags / 16 % 2, flags % 16, b"case-d")
+    let mut to = put_flag(out, at, flags / 1 % 2 == 1, flags % 1, b"transfer");
+    to = put_flag(out, to, flags / 2 % 2 == 1, flags % 2, b"option");
+    to = put_flag(out, to, flags / 4 % 2 == 1, flags % 4, b"subscribed");
+    to = put_flag(out, to, flags / 8 % 2 == 1, flags % 8, b"interaction");
+    put_flag(out, to, flags / 16 % 2 == 1, flags % 16, b"case-d")
 }
 
 // From 32 on there is a bit that is no flag.
@@ -133,13 +130,11 @@ fn put_flags(out: &mut [u8], at: usize, flags: u8) -> usize
     ensures put { Put out.old at (flags_word flags) out.new result }
     ensures upper_bound { result ≤ at + 46 }
 {
-    if flags == 0 {
-        return text::put_word(out, at, b" -");
+    match flags {
+        0 => text::put_word(out, at, b" -"),
+        1..32 => put_set_flags(out, at, flags),
+        _ => put_code(out, at, flags),
     }
-    if flags < 32 {
-        return put_set_flags(out, at, flags);
-    }
-    put_code(out, at, flags)
 }
 
 fn put_opening(out: &mut [u8], at: usize, role: u8, flags: u8, own: Number) -> usize
@@ -159,19 +154,13 @@ fn put_asked(out: &mut [u8], at: usize, item: u8) -> usize
     ensures put { Put out.old at (asked_word item) out.new result }
     ensures upper_bound { result ≤ at + 11 }
 {
-    if item == 0 {
-        return text::put_word(out, at, b" BASIC");
+    match item {
+        0 => text::put_word(out, at, b" BASIC"),
+        1 => text::put_word(out, at, b" A"),
+        2 => text::put_word(out, at, b" B"),
+        3 => text::put_word(out, at, b" C"),
+        _ => put_code(out, at, item),
     }
-    if item == 1 {
-        return text::put_word(out, at, b" A");
-    }
-    if item == 2 {
-        return text::put_word(out, at, b" B");
-    }
-    if item == 3 {
-        return text::put_word(out, at, b" C");
-    }
-    put_code(out, at, item)
 }
 
 fn put_ask(out: &mut [u8], at: usize, item: u8, called: Number) -> usize
@@ -190,22 +179,14 @@ fn put_name(out: &mut [u8], at: usize, kind: u8) -> usize
     ensures put { Put out.old at (name_word kind) out.new result }
     ensures upper_bound { result ≤ at + 19 }
 {
-    if kind == 1 {
-        return text::put_word(out, at, b" IAM");
+    match kind {
+        1 => text::put_word(out, at, b" IAM"),
+        2 => text::put_word(out, at, b" ANM"),
+        3 => text::put_word(out, at, b" CON"),
+        4 => text::put_word(out, at, b" REL"),
+        5 => text::put_word(out, at, b" FAC"),
+        _ => text::put_numbered(out, at, b" MESSAGE ", kind as u32),
     }
-    if kind == 2 {
-        return text::put_word(out, at, b" ANM");
-    }
-    if kind == 3 {
-        return text::put_word(out, at, b" CON");
-    }
-    if kind == 4 {
-        return text::put_word(out, at, b" REL");
-    }
-    if kind == 5 {
-        return text::put_word(out, at, b" FAC");
-    }
-    text::put_numbered(out, at, b" MESSAGE ", kind as u32)
 }
 
 fn put_operation_word(out: &mut [u8], at: usize, operation: u8) -> usize
@@ -213,13 +194,10 @@ fn put_operation_word(out: &mut [u8], at: usize, operation: u8) -> usize
     ensures put { Put out.old at (operation_word operation) out.new result }
     ensures upper_bound { result ≤ at + 11 }
 {
-    if operation == 0 {
-        return put_code(out, at, operation);
+    match operation {
+        1..=3 => text::put_word(out, at, operation_word(operation)),
+        _ => put_code(out, at, operation),
     }
-    if operation < 4 {
-        return put_operation(out, at, operation);
-    }
-    put_code(out, at, operation)
 }
 
 fn put_with_operation_word(out: &mut [u8], at: usize, word: &[u8], operation: u8) -> usize
@@ -238,9 +216,10 @@ fn put_unless_zero(out: &mut [u8], at: usize, word: &[u8], n: u8) -> usize
     ensures upper_bound { result ≤ at + length word.now + 10 }
 {
     if n == 0 {
-        return at;
+        at
+    } else {
+        text::put_numbered(out, at, word, n as u32)
     }
-    text::put_numbered(out, at, word, n as u32)
 }
 
 fn put_reject(out: &mut [u8], at: usize, n: u8) -> usize
@@ -286,15 +265,12 @@ fn put_with_number(out: &mut [u8], at: usize, word: &[u8], n: Number) -> usize
 }
 
 // A number where its part is present.
-fn put_number_if(out: &mut [u8], at: usize, present: u8, word: &[u8], n: Number) -> usize
+fn put_number_if(out: &mut [u8], at: usize, present: bool, word: &[u8], n: Number) -> usize
     requires { at + length word.now < 2 ^ 60 }
-    ensures put { Put out.old at (text_if present (with_number word.now n)) out.new result }
+    ensures put { Put out.old at (if_so present (with_number word.now n) []) out.new result }
     ensures upper_bound { result ≤ at + length word.now + 257 }
 {
-    if present == 1 {
-        return put_with_number(out, at, word, n);
-    }
-    at
+    if present { put_with_number(out, at, word, n) } else { at }
 }
 
 // The parts that have a value, and the bit that is no part.
@@ -303,13 +279,10 @@ fn put_values_words(out: &mut [u8], at: usize, m: Message) -> usize
     ensures put { Put out.old at (values_words m) out.new result }
     ensures upper_bound { result ≤ at + 558 }
 {
-    let calling = m.calling;
-    let called = m.called;
-    let parts = m.parts;
-    let mut to = put_number_if(out, at, parts / 16 % 2, b" CALLING", calling);
-    to = put_number_if(out, to, parts / 32 % 2, b" CALLED", called);
-    to = put_duration_if(out, to, parts / 64 % 2, m.duration);
-    put_if(out, to, parts / 128 % 2, b" PART 128")
+    let mut to = put_number_if(out, at, m.parts / 16 % 2 == 1, b" CALLING", m.calling);
+    to = put_number_if(out, to, m.parts / 32 % 2 == 1, b" CALLED", m.called);
+    to = put_duration_if(out, to, m.parts / 64 % 2 == 1, m.duration);
+    put_if(out, to, m.parts / 128 % 2 == 1, b" PART 128")
 }
 
 fn put_message(out: &mut [u8], at: usize, m: Message) -> usize
@@ -317,10 +290,9 @@ fn put_message(out: &mut [u8], at: usize, m: Message) -> usize
     ensures put { Put out.old at (message_words m) out.new result }
     ensures upper_bound { result ≤ at + 658 }
 {
-    let component = m.component;
     let mut to = put_name(out, at, m.kind);
     to = put_code(out, to, m.cause);
-    to = put_component_words(out, to, component);
+    to = put_component_words(out, to, m.component);
     to = put_parts(out, to, m.parts);
     put_values_words(out, to, m)
 }
@@ -331,22 +303,14 @@ fn put_told(out: &mut [u8], at: usize, item: u8) -> usize
     ensures put { Put out.old at (told_word item) out.new result }
     ensures upper_bound { result ≤ at + 11 }
 {
-    if item == 1 {
-        return text::put_word(out, at, b" ACCEPT");
+    match item {
+        1 => text::put_word(out, at, b" ACCEPT"),
+        2 => text::put_word(out, at, b" ERROR"),
+        3 => text::put_word(out, at, b" REJECT"),
+        4 => text::put_word(out, at, b" CLEAR"),
+        5 => text::put_word(out, at, b" ANSWER"),
+        _ => put_code(out, at, item),
     }
-    if item == 2 {
-        return text::put_word(out, at, b" ERROR");
-    }
-    if item == 3 {
-        return text::put_word(out, at, b" REJECT");
-    }
-    if item == 4 {
-        return text::put_word(out, at, b" CLEAR");
-    }
-    if item == 5 {
-        return text::put_word(out, at, b" ANSWER");
-    }
-    put_code(out, at, item)
 }
 
 fn put_access(out: &mut [u8], at: usize, item: u8, error: u8) -> usize
@@ -395,35 +359,15 @@ pub(crate) fn put_entry(out: &mut [u8], at: usize, w: Where, e: Event) -> usize
     put_event(out, to, e)
 }
 
-// Whether two texts are the same.
-fn same(a: &[u8], b: &[u8]) -> bool
-    ensures { (result ≡ true → a.now ≡ b.now) × (a.now ≡ b.now → result ≡ true) }
-{
-    if a.len() != b.len() {
-        return false;
-    }
-    let mut i = 0;
-    while i < a.len() {
-        if a[i] != b[i] {
-            return false;
-        }
-        i += 1;
-    }
-    true
-}
-
 // Whether words are a line with a blank before it.
 fn begins_line(words: &[u8], line: &[u8]) -> bool
     ensures { (result ≡ true → ascii " " ++ line.now ≡ words.now)
         × (ascii " " ++ line.now ≡ words.now → result ≡ true) }
 {
-    if words.len() == 0 {
-        return false;
+    match words.strip_prefix(b" ") {
+        Some(rest) => rest == line,
+        None => false,
     }
-    if words[0] != b' ' {
-        return false;
-    }
-    same(&words[1..], line)
 }
 
 // Whether a line says an event, plain or at a slot, in its words, without the blank that they begin with.

@@ -13,7 +13,7 @@ ghost use Rattle.files.specs.Write.{written_of, left_of, written_at, left_at, gi
 
 use crate::bodies::{component_of, plain_at};
 use crate::frames::{CUT_SHORT, SLOTTED, length_of};
-use crate::{Read, Written};
+use crate::{Read, Unwritten};
 use rows::{Component, Event, Message, Nature, Number};
 
 // ---- The bytes of a number, least first, where there is room for them: no test of each, so that a field is stored at once.
@@ -73,9 +73,7 @@ fn put_number(out: &mut [u8], at: usize, n: Number) -> usize
     ensures put { Put out.old at (bytes_of (number_fields 1) (number_values n)) out.new result }
     ensures value { result ≡ at + 9 }
 {
-    let nature = n.nature;
-    let counted = count_byte(nature, n.count);
-    let to = put_1(out, at, counted);
+    let to = put_1(out, at, count_byte(n.nature, n.count));
     put_8(out, to, n.value)
 }
 
@@ -85,10 +83,7 @@ fn put_number_if(out: &mut [u8], at: usize, present: u8, n: Number) -> usize
     ensures put { Put out.old at (bytes_of (number_fields present) (number_values n)) out.new result }
     ensures value { result ≡ at + 9 * present }
 {
-    if present == 1 {
-        return put_number(out, at, n);
-    }
-    at
+    if present == 1 { put_number(out, at, n) } else { at }
 }
 
 fn put_duration_if(out: &mut [u8], at: usize, present: u8, seconds: u32) -> usize
@@ -96,10 +91,7 @@ fn put_duration_if(out: &mut [u8], at: usize, present: u8, seconds: u32) -> usiz
     ensures put { Put out.old at (le_of (4 * present) seconds) out.new result }
     ensures value { result ≡ at + 4 * present }
 {
-    if present == 1 {
-        return put_4(out, at, seconds as u64);
-    }
-    at
+    if present == 1 { put_4(out, at, seconds as u64) } else { at }
 }
 
 // The numbers and the duration that are present follow one another.
@@ -107,12 +99,9 @@ fn put_carried(out: &mut [u8], at: usize, m: Message) -> usize
     requires { at + 9 * part m.parts 16 + 9 * part m.parts 32 + 4 * part m.parts 64 ≤ length out.old }
     ensures { Put out.old at (bytes_of (carried_fields m.parts) (carried_values m)) out.new result }
 {
-    let calling = m.calling;
-    let called = m.called;
-    let parts = m.parts;
-    let mut to = put_number_if(out, at, parts / 16 % 2, calling);
-    to = put_number_if(out, to, parts / 32 % 2, called);
-    put_duration_if(out, to, parts / 64 % 2, m.duration)
+    let mut to = put_number_if(out, at, m.parts / 16 % 2, m.calling);
+    to = put_number_if(out, to, m.parts / 32 % 2, m.called);
+    put_duration_if(out, to, m.parts / 64 % 2, m.duration)
 }
 
 pub fn code_of(component: Component) -> u8
@@ -132,12 +121,12 @@ pub fn item_of(component: Component) -> u8
     ensures { result ≡ item_of component }
 {
     match component {
-        Component::Absent(n) => n,
-        Component::Invoke(n) => n,
-        Component::Result(n) => n,
-        Component::Error(n) => n,
-        Component::Reject(n) => n,
-        Component::Unknown(_, n) => n,
+        Component::Absent(n)
+        | Component::Invoke(n)
+        | Component::Result(n)
+        | Component::Error(n)
+        | Component::Reject(n)
+        | Component::Unknown(_, n) => n,
     }
 }
 
@@ -178,13 +167,10 @@ fn put_front(out: &mut [u8], at: usize, m: Message) -> usize
     ensures put { Put out.old at (bytes_of front_fields (front_values m)) out.new result }
     ensures value { result ≡ at + 5 }
 {
-    let component = m.component;
-    let code = code_of(component);
-    let item = item_of(component);
     let mut to = put_1(out, at, m.kind);
     to = put_1(out, to, m.cause);
-    to = put_1(out, to, code);
-    to = put_1(out, to, item);
+    to = put_1(out, to, code_of(m.component));
+    to = put_1(out, to, item_of(m.component));
     put_1(out, to, m.parts)
 }
 
@@ -229,98 +215,45 @@ fn put_time(out: &mut [u8], seconds: u32) -> usize
     put_4(out, to, seconds as u64)
 }
 
-// ---- Each kind: 3, then 8, then the record
-
-fn write_opening(role: u8, flags: u8, own: Number, out: &mut [u8]) -> Written
-    ensures { (result ≡ written_of (Opening role flags own) out.old)
-        × (out.new ≡ left_of (Opening role flags own) out.old) }
+// The record of any event.
+fn put_event(out: &mut [u8], e: Event) -> usize
+    requires { length (record_of e) ≤ length out.old }
+    ensures { Put out.old 0 (record_of e) out.new result }
 {
-    let field = rows::opening_bad(role, flags, own);
-    if field == 0 {
-        if out.len() < 15 {
-            return Written::NoRoom;
-        }
-        return Written::Whole(put_opening(out, role, flags, own));
+    match e {
+        Event::Opening(role, flags, own) => put_opening(out, role, flags, own),
+        Event::Ask(item, called) => put_ask(out, item, called),
+        Event::Received(m) => put_message(out, m),
+        Event::FromAccess(item, error) => put_access(out, item, error),
+        Event::Expiry => put_expiry(out),
+        Event::Time(seconds) => put_time(out, seconds),
     }
-    Written::BadField(field)
 }
 
-fn write_ask(item: u8, called: Number, out: &mut [u8]) -> Written
-    ensures { (result ≡ written_of (Ask item called) out.old)
-        × (out.new ≡ left_of (Ask item called) out.old) }
+// How many bytes it has, with the two of its length.
+fn record_size(e: Event) -> usize
+    ensures { result ≡ length (record_of e) }
 {
-    let field = rows::ask_bad(item, called);
-    if field == 0 {
-        if out.len() < 14 {
-            return Written::NoRoom;
-        }
-        return Written::Whole(put_ask(out, item, called));
+    match e {
+        Event::Opening(..) => 15,
+        Event::Ask(..) => 14,
+        Event::Received(m) => message_size(m.parts),
+        Event::FromAccess(..) => 6,
+        Event::Expiry => 4,
+        Event::Time(_) => 8,
     }
-    Written::BadField(field)
-}
-
-fn write_message(m: Message, out: &mut [u8]) -> Written
-    ensures { (result ≡ written_of (Received m) out.old) × (out.new ≡ left_of (Received m) out.old) }
-{
-    let field = rows::message_bad(m);
-    if field == 0 {
-        if out.len() < message_size(m.parts) {
-            return Written::NoRoom;
-        }
-        return Written::Whole(put_message(out, m));
-    }
-    Written::BadField(field)
-}
-
-fn write_access(item: u8, error: u8, out: &mut [u8]) -> Written
-    ensures { (result ≡ written_of (FromAccess item error) out.old)
-        × (out.new ≡ left_of (FromAccess item error) out.old) }
-{
-    let field = rows::access_bad(item, error);
-    if field == 0 {
-        if out.len() < 6 {
-            return Written::NoRoom;
-        }
-        return Written::Whole(put_access(out, item, error));
-    }
-    Written::BadField(field)
-}
-
-fn write_expiry(out: &mut [u8]) -> Written
-    ensures { (result ≡ written_of Expiry out.old) × (out.new ≡ left_of Expiry out.old) }
-{
-    if out.len() < 4 {
-        return Written::NoRoom;
-    }
-    Written::Whole(put_expiry(out))
-}
-
-fn write_time(seconds: u32, out: &mut [u8]) -> Written
-    ensures { (result ≡ written_of (Time seconds) out.old) × (out.new ≡ left_of (Time seconds) out.old) }
-{
-    let field = rows::time_bad(seconds);
-    if field == 0 {
-        if out.len() < 8 {
-            return Written::NoRoom;
-        }
-        return Written::Whole(put_time(out, seconds));
-    }
-    Written::BadField(field)
 }
 
 // ---- For hosts
 
-// Any event.
-pub fn write_event(e: Event, out: &mut [u8]) -> Written
+// Any event: 3, then 8, then the record.
+pub fn write_event(e: Event, out: &mut [u8]) -> Result<usize, Unwritten>
     ensures { (result ≡ written_of e out.old) × (out.new ≡ left_of e out.old) }
 {
-    match e {
-        Event::Opening(role, flags, own) => write_opening(role, flags, own, out),
-        Event::Ask(item, called) => write_ask(item, called, out),
-        Event::Received(m) => write_message(m, out),
-        Event::FromAccess(item, error) => write_access(item, error, out),
-        Event::Expiry => write_expiry(out),
-        Event::Time(seconds) => write_time(seconds, out),
+    match rows::bad_field(e) {
+        Some(field) => Err(Unwritten::BadField(field)),
+        None if out.len() < record_size(e) => Err(Unwritten::NoRoom),
+        None => Ok(put_event(out, e)),
     }
 }
 
@@ -335,30 +268,25 @@ fn put_slot_head(out: &mut [u8], inner: usize, slot: u16) -> usize
 }
 
 // Any event at a slot: a record of kind 7. The record inside is written first, where it will stand, so that it is judged once.
-pub fn write_at_slot(slot: u16, e: Event, out: &mut [u8]) -> Written
+pub fn write_at_slot(slot: u16, e: Event, out: &mut [u8]) -> Result<usize, Unwritten>
     ensures { (result ≡ written_at slot e out.old) × (out.new ≡ left_at slot e out.old) }
 {
     if out.len() < 6 {
         return write_event(e, &mut out[..0]);
     }
-    match write_event(e, &mut out[6..]) {
-        Written::Whole(n) => {
-            put_slot_head(out, n, slot);
-            Written::Whole(n + 6)
-        }
-        Written::BadField(field) => Written::BadField(field),
-        Written::NoRoom => Written::NoRoom,
-    }
+    let n = write_event(e, &mut out[6..])?;
+    put_slot_head(out, n, slot);
+    Ok(n + 6)
 }
 
 // An answer as a host in C is given it: 0, 8, or 3 with the field's ordinal above it.
-fn gives_back(w: Written) -> u32
-    ensures { result ≡ gives_back w }
+fn gives_back(answer: Result<usize, Unwritten>) -> u32
+    ensures { result ≡ gives_back answer }
 {
-    match w {
-        Written::Whole(_) => 0,
-        Written::BadField(field) => 3 + 256 * field as u32,
-        Written::NoRoom => 8,
+    match answer {
+        Ok(_) => 0,
+        Err(Unwritten::BadField(field)) => 3 + 256 * field as u32,
+        Err(Unwritten::NoRoom) => 8,
     }
 }
 
@@ -367,17 +295,17 @@ fn nature_with(international: bool) -> Nature
     ensures { result ≡ nature_with international }
 {
     if international {
-        return Nature::International;
+        Nature::International
+    } else {
+        Nature::National
     }
-    Nature::National
 }
 
 fn number_with(international: bool, count: u8, value: u64) -> Number
     ensures { result ≡ number_with international count value }
 {
-    let nature = nature_with(international);
     Number {
-        nature,
+        nature: nature_with(international),
         count,
         value,
     }
@@ -396,7 +324,7 @@ pub fn rev_write_opening(
         × (out.new ≡ left_of (Opening role flags (number_with international count value)) out.old) }
 {
     let own = number_with(international, count, value);
-    gives_back(write_opening(role, flags, own, out))
+    gives_back(write_event(Event::Opening(role, flags, own), out))
 }
 
 pub fn rev_write_request(
@@ -410,7 +338,7 @@ pub fn rev_write_request(
         × (out.new ≡ left_of (Ask request (number_with international count value)) out.old) }
 {
     let called = number_with(international, count, value);
-    gives_back(write_ask(request, called, out))
+    gives_back(write_event(Event::Ask(request, called), out))
 }
 
 pub fn rev_write_message(
@@ -439,39 +367,36 @@ pub fn rev_write_message(
         (number_with calledinternational calledcount calledvalue) duration)
         out.old) }
 {
-    let calling = number_with(callinginternational, callingcount, callingvalue);
-    let called = number_with(calledinternational, calledcount, calledvalue);
-    let component = component_of(component, item);
     let m = Message {
         kind: message,
         cause,
-        component,
+        component: component_of(component, item),
         parts,
-        calling,
-        called,
+        calling: number_with(callinginternational, callingcount, callingvalue),
+        called: number_with(calledinternational, calledcount, calledvalue),
         duration,
     };
-    gives_back(write_message(m, out))
+    gives_back(write_event(Event::Received(m), out))
 }
 
 pub fn rev_write_access(told: u8, error: u8, out: &mut [u8]) -> u32
     ensures { (result ≡ gives_back (written_of (FromAccess told error) out.old))
         × (out.new ≡ left_of (FromAccess told error) out.old) }
 {
-    gives_back(write_access(told, error, out))
+    gives_back(write_event(Event::FromAccess(told, error), out))
 }
 
 pub fn rev_write_expiry(out: &mut [u8]) -> u32
     ensures { (result ≡ gives_back (written_of Expiry out.old)) × (out.new ≡ left_of Expiry out.old) }
 {
-    gives_back(write_expiry(out))
+    gives_back(write_event(Event::Expiry, out))
 }
 
 pub fn rev_write_time(seconds: u32, out: &mut [u8]) -> u32
     ensures { (result ≡ gives_back (written_of (Time seconds) out.old))
         × (out.new ≡ left_of (Time seconds) out.old) }
 {
-    gives_back(write_time(seconds, out))
+    gives_back(write_event(Event::Time(seconds), out))
 }
 
 // A record of kind 7 around the plain record that a host in C hands over: 5, 6 or 7 if none can be read there, then 3 and 8 as of any event.

@@ -5,10 +5,12 @@ use mathlib.Core.List.{List, [], ◌∷◌}
 use Prim.Native.Nat.{ℕ, ◌≤◌, ◌<◌, ◌^◌}
 use native.Mathlib.Omega.{arith}
 use lib.ListN.{length}
+use Rattle.std.specs.Prelude.{Some, None}
 use Rattle.text.proofs.Cases.{yes_eq, no_eq, both_eq, yes_lt, no_lt, both_lt}
 use Rattle.files.specs.declared.Read.{Read}
 use Rattle.files.specs.declared.Where.{Where}
-use Rattle.rows.specs.Valid.{bad_field_of}
+use Rattle.rows.specs.Valid.{ordinal, bad_field_of}
+use Rattle.rows.proofs.Ranges.{none_told, some_told}
 use Rattle.rows.specs.declared.Event.{Event}
 use Rattle.rows.specs.declared.Event.TheVariants.{Opening, Ask, Received, FromAccess, Expiry, Time}
 use Rattle.rows.specs.declared.Message.{Message}
@@ -184,20 +186,23 @@ nearest_some a b h =
     both_eq a 0 (λ (z : ℕ). z ≡ 0 → ⊥) _ _ (λ e _. h e)
     (λ _. both_eq b 0 (λ (z : ℕ). z ≡ 0 → ⊥) _ _ (λ _. h) (λ g. both_lt b a (λ (z : ℕ). z ≡ 0 → ⊥) _ _ (λ _. g) (λ _. h)))
 
-module _ (m : Message) (id : ℕ) (out : List ℕ) (c : Component) (f : c ≡ carried_of m id) (a : ℕ) (e : a ≡ bad_field_of (Received m)) where
-  pub message_good : (r : ℕ) (new : List ℕ) → a ≡ 0 → Gave (in_record (bad_of c)) (parameter_text c) out r new → Sends (Received m) id out r new
+module _ (m : Message) (id : ℕ) (out : List ℕ) (c : Component) (f : c ≡ carried_of m id) where
+  pub message_good : (r : ℕ) (new : List ℕ) → None ≡ ordinal (bad_field_of (Received m)) → Gave (in_record (bad_of c)) (parameter_text c) out r new
+      → Sends (Received m) id out r new
   unfolding sent_bad send_gives send_leaves
   message_good r new h g =
       subst (λ (k : ℕ). Gave k (parameter_text (carried_of m id)) out r new)
-      (sym (nearest_none (bad_field_of (Received m)) (in_record (bad_of (carried_of m id))) (sym e ∙ h)))
+      (sym (nearest_none (bad_field_of (Received m)) (in_record (bad_of (carried_of m id))) (none_told _ h)))
       (subst (λ (x : Component). Gave (in_record (bad_of x)) (parameter_text x) out r new) f g)
 
-  pub message_bad : (b x k r : ℕ) → (a ≡ 0 → ⊥) → b ≡ bad_of c → x ≡ in_record b → k ≡ nearest a x → r ≡ with_rest 3 k → Sends (Received m) id out r out
+  pub message_bad : (a b x k r : ℕ) → Some a ≡ ordinal (bad_field_of (Received m)) → b ≡ bad_of c → x ≡ in_record b → k ≡ nearest a x
+      → r ≡ with_rest 3 k → Sends (Received m) id out r out
   unfolding sent_bad send_gives send_leaves
-  message_bad b x k r h g i j l =
+  message_bad a b x k r h g i j l =
+      let s = some_told _ _ h in
       let q : k ≡ nearest (bad_field_of (Received m)) (in_record (bad_of (carried_of m id))) =
-      j ∙ ap (λ (y : ℕ). nearest y x) e ∙ ap (nearest (bad_field_of (Received m))) (i ∙ ap in_record (g ∙ ap bad_of f)) in
-      gives_bad _ _ out r (nearest_some (bad_field_of (Received m)) _ (λ z. h (e ∙ z))) (l ∙ ap (with_rest 3) q)
+      j ∙ ap (λ (y : ℕ). nearest y x) s.0 ∙ ap (nearest (bad_field_of (Received m))) (i ∙ ap in_record (g ∙ ap bad_of f)) in
+      gives_bad _ _ out r (nearest_some (bad_field_of (Received m)) _ s.1) (l ∙ ap (with_rest 3) q)
 
 module _ (e : Event) (id : ℕ) (out : List ℕ) where
   other : (x : Event) → e ≡ x → Sends x id out 3 out → Sends e id out 3 out

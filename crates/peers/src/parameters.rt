@@ -101,13 +101,14 @@ fn write_message(m: Message, id: u16, out: &mut [u8]) -> u32
     ensures { (result ≡ send_gives (Received m) id out.old) × (out.new ≡ send_leaves (Received m) id out.old) }
 {
     let c = carried(m, id);
-    let a = rows::message_bad(m);
-    if a == 0 {
-        return write_component(c, out);
+    match rows::message_bad(m) {
+        None => write_component(c, out),
+        Some(a) => {
+            let b = wire::bad_field(c);
+            let k = nearest(a as u16, in_record(b));
+            with_rest(BAD_FIELD, k as usize)
+        }
     }
-    let b = wire::bad_field(c);
-    let k = nearest(a as u16, in_record(b));
-    with_rest(BAD_FIELD, k as usize)
 }
 
 fn write_event(e: Event, id: u16, out: &mut [u8]) -> u32

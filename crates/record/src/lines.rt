@@ -3,7 +3,7 @@ ghost use Rattle.std.specs.Prelude.{◌≤◌, length, IfOk};
 
 use crate::guess::{event_of, numeric};
 use crate::refused::{Refused, Stop};
-use files::{Where, Written};
+use files::Where;
 use rows::Event;
 
 // The line that a dump begins with.
@@ -33,15 +33,11 @@ fn event_words(line: &[u8]) -> &[u8] {
 fn write(w: Where, e: Event, out: &mut [u8]) -> Result<usize, Refused>
     ensures { IfOk result (λ n. n ≤ length out.old) }
 {
-    let written = match w {
-        Where::Plain => files::write_event(e, out),
-        Where::Slot(slot) => files::write_at_slot(slot, e, out),
+    let n = match w {
+        Where::Plain => files::write_event(e, out)?,
+        Where::Slot(slot) => files::write_at_slot(slot, e, out)?,
     };
-    match written {
-        Written::Whole(n) => Ok(n),
-        Written::BadField(field) => Err(Refused::BadField(field)),
-        Written::NoRoom => Err(Refused::TooLong),
-    }
+    Ok(n)
 }
 
 // The line with this count, recorded at `to`: the place after it.

@@ -1,4 +1,5 @@
 // Why a text is refused, as it is told: 3 and 8 are the numbers that document 01 gives back; the others are for what is no event.
+use files::Unwritten;
 use std::fmt;
 
 // Why a line is not recorded.
@@ -16,6 +17,15 @@ pub(crate) enum Refused {
 pub(crate) struct Stop {
     pub(crate) line: usize,
     pub(crate) why: Refused,
+}
+
+impl From<Unwritten> for Refused {
+    fn from(why: Unwritten) -> Refused {
+        match why {
+            Unwritten::BadField(field) => Refused::BadField(field),
+            Unwritten::NoRoom => Refused::TooLong,
+        }
+    }
 }
 
 impl fmt::Display for Refused {

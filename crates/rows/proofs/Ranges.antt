@@ -4,11 +4,12 @@ use mathlib.Core.Path.{◌≡◌, refl, sym, ◌∙◌}
 use mathlib.Core.Bool.{Bool, true, false, ◌&&◌, ◌||◌}
 use mathlib.Core.List.{List, [], ◌∷◌}
 use mathlib.Core.Logic.{◌↔◌}
+use Rattle.std.specs.Prelude.{Some, None}
 use Prim.Native.Nat.{ℕ, zero, suc, ◌<◌, ◌≤◌, ◌+◌}
 use native.Mathlib.Omega.{arith}
 use lib.Dec.{eqb, leb}
 use Rattle.rows.specs.Read.{bit}
-use Rattle.rows.specs.Valid.{every_one, first_false, number_there, number_absent, number_if, code_ok, item_ok, parts_ok, present_then}
+use Rattle.rows.specs.Valid.{every_one, first_false, ordinal, number_there, number_absent, number_if, code_ok, item_ok, parts_ok, present_then}
 use Rattle.rows.specs.Perform.{refused_at}
 use Rattle.rows.specs.Reasons.{field_in, FirstOut}
 use Rattle.rows.specs.Step.{takes_of, if_in_range}
@@ -87,6 +88,15 @@ zero_or_later : (k : ℕ) (bs : List Bool) (m : ℕ) → first_false (suc k) bs 
 zero_or_later k [] m h = absurd (omega (arith, h))
 zero_or_later k (true ∷ bs) m h = let i = zero_or_later (suc k) bs m h in omega (arith, i)
 zero_or_later k (false ∷ bs) m h = omega (arith, h)
+
+-- as it is answered: nothing, or the ordinal itself
+pub none_told : (k : ℕ) → None ≡ ordinal k → k ≡ 0
+none_told zero h = refl
+none_told (suc k) h = cc
+
+pub some_told : (n k : ℕ) → Some n ≡ ordinal k → (n ≡ k) × (k ≡ 0 → ⊥)
+some_told n zero h = cc
+some_told n (suc k) h = (cc, λ z. omega (arith, z))
 
 -- the field that it names is the first out of range ..
 first_out : (m : ℕ) (bs : List Bool) (k : ℕ) → first_false (suc m) bs ≡ suc m + k → FirstOut bs k

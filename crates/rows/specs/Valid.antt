@@ -1,6 +1,6 @@
 -- Which calls the table of document 01 allows (else 9), and which events have their fields in range (else 3).
 -- Assumes nothing.
-use Rattle.std.specs.Prelude.{ℕ, suc, ◌^◌, Bool, true, false, ◌&&◌, ◌||◌, not, List, [], ◌∷◌, ltb, leb, eqb}
+use Rattle.std.specs.Prelude.{ℕ, zero, suc, Option, Some, None, ◌^◌, Bool, true, false, ◌&&◌, ◌||◌, not, List, [], ◌∷◌, ltb, leb, eqb}
 use Rattle.rows.specs.Numbers.{day, calling_part, called_part, duration_part}
 use Rattle.rows.specs.Read.{bit}
 use Rattle.rows.specs.Telephone.{national}
@@ -168,6 +168,11 @@ every_one (b ∷ bs) = b && every_one bs
 abbrev pub first_false : ℕ → List Bool → ℕ
 first_false k [] = 0
 first_false k (b ∷ bs) = pickℕ b (first_false (suc k) bs) k
+
+-- an ordinal as it is answered: 0, which is none, is None
+abbrev pub ordinal : ℕ → Option ℕ
+ordinal zero = None
+ordinal (suc k) = Some (suc k)
 
 -- "count 1 to 15", value "below 10 to the count", of either nature
 abbrev pub number_there : Number → Bool

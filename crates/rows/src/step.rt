@@ -75,11 +75,9 @@ impl Call {
     fn ranged(self, e: Event) -> Outcome
         ensures { result ≡ if_in_range (event_ok e) self e }
     {
-        let field = valid::bad_field(e);
-        if field == 0 {
-            self.takes(e)
-        } else {
-            self.refused_at(BAD_FIELD, field)
+        match valid::bad_field(e) {
+            None => self.takes(e),
+            Some(field) => self.refused_at(BAD_FIELD, field),
         }
     }
 

@@ -2,7 +2,7 @@
 ghost use Rattle.std.specs.Prelude.{◌||◌, not, ◌≡◌};
 ghost use Rattle.rows.specs.Valid.{idle_only, originating_setup, originating_answered, destination_setup, destination_answered, placed_of};
 ghost use Rattle.rows.specs.Valid.{ten_to, in_range, unmetered, payer_nobody, payer_there, tallied, metered_of, paying_there, paying_of};
-ghost use Rattle.rows.specs.Valid.{numbers_held, valid_of, number_there, number_absent, number_if, pickℕ, first_false, opening_ranges, ask_ranges};
+ghost use Rattle.rows.specs.Valid.{numbers_held, valid_of, number_there, number_absent, number_if, ordinal, first_false, opening_ranges, ask_ranges};
 ghost use Rattle.rows.specs.Valid.{code_ok, item_ok, parts_ok, carried_ranges, message_ranges, access_ranges, time_ranges, bad_field_of};
 
 use crate::numbers::{DAY, FAC, IAM};
@@ -280,54 +280,47 @@ fn number_if(there: bool, n: Number) -> bool
     number_absent(n)
 }
 
-// ---- The ordinal of the first field of the body that is out of its range, from 1; 0 where none is
+// ---- The ordinal of the first field of the body that is out of its range, from 1; None where none is
 
-fn either(test: bool, a: u8, b: u8) -> u8
-    ensures { result ≡ pickℕ test a b }
+pub fn opening_bad(role: u8, flags: u8, own: Number) -> Option<u8>
+    ensures { result ≡ ordinal (first_false 1 (opening_ranges role flags own)) }
 {
-    if test { a } else { b }
+    if 1 < role {
+        Some(1)
+    } else if 31 < flags {
+        Some(2)
+    } else if !number_there(own) {
+        Some(3)
+    } else {
+        None
+    }
 }
 
-pub fn opening_bad(role: u8, flags: u8, own: Number) -> u8
-    ensures { result ≡ first_false 1 (opening_ranges role flags own) }
+pub fn ask_bad(q: u8, n: Number) -> Option<u8>
+    ensures { result ≡ ordinal (first_false 1 (ask_ranges q n)) }
 {
-    let there = number_there(own);
-    let third = either(there, 0, 3);
-    let second = either(flags <= 31, third, 2);
-    either(role <= 1, second, 1)
-}
-
-pub fn ask_bad(q: u8, n: Number) -> u8
-    ensures { result ≡ first_false 1 (ask_ranges q n) }
-{
-    let fits = number_if(q <= 1, n);
-    let second = either(fits, 0, 2);
-    either(q <= 3, second, 1)
+    if 3 < q {
+        Some(1)
+    } else if !number_if(q <= 1, n) {
+        Some(2)
+    } else {
+        None
+    }
 }
 
 fn code_ok(x: Component) -> bool
     ensures { result ≡ code_ok x }
 {
-    match x {
-        Component::Absent(_) => true,
-        Component::Invoke(_) => true,
-        Component::Result(_) => true,
-        Component::Error(_) => true,
-        Component::Reject(_) => true,
-        Component::Unknown(_, _) => false,
-    }
+    !matches!(x, Component::Unknown(_, _))
 }
 
 fn item_ok(x: Component) -> bool
     ensures { result ≡ item_ok x }
 {
     match x {
-        Component::Absent(n) => n == 0,
-        Component::Invoke(n) => (1 <= n) & (n <= 3),
-        Component::Result(n) => (1 <= n) & (n <= 3),
-        Component::Error(_) => true,
-        Component::Reject(n) => n == 0,
-        Component::Unknown(_, _) => true,
+        Component::Absent(n) | Component::Reject(n) => n == 0,
+        Component::Invoke(n) | Component::Result(n) => 1 <= n && n <= 3,
+        Component::Error(_) | Component::Unknown(_, _) => true,
     }
 }
 
@@ -349,64 +342,71 @@ fn parts_ok(m: Message) -> bool
 fn there_if(named: bool, n: Number) -> bool
     ensures { result ≡ (not named || number_there n) }
 {
-    if named {
-        return number_there(n);
-    }
-    true
+    !named || number_there(n)
 }
 
 // What the parts name begins with field 6: the calling number, then the called number, which is 6 where it stands alone. The Duration may
 // be any.
-fn carried_bad(m: Message) -> u8
-    ensures { result ≡ first_false 6 (carried_ranges m) }
+fn carried_bad(m: Message) -> Option<u8>
+    ensures { result ≡ ordinal (first_false 6 (carried_ranges m)) }
 {
-    let calling = m.calling;
-    let called = m.called;
-    let a = there_if((m.parts / 16) % 2 == 1, calling);
-    let b = there_if((m.parts / 32) % 2 == 1, called);
-    let after = either(b, 0, 7);
-    let alone = either(b, 0, 6);
-    let second = either((m.parts / 16) % 2 == 1, after, alone);
-    either(a, second, 6)
+    let first = (m.parts / 16) % 2 == 1;
+    if !there_if(first, m.calling) {
+        Some(6)
+    } else if there_if((m.parts / 32) % 2 == 1, m.called) {
+        None
+    } else if first {
+        Some(7)
+    } else {
+        Some(6)
+    }
 }
 
-pub fn message_bad(m: Message) -> u8
-    ensures { result ≡ first_false 1 (message_ranges m) }
+pub fn message_bad(m: Message) -> Option<u8>
+    ensures { result ≡ ordinal (first_false 1 (message_ranges m)) }
 {
-    let component = m.component;
-    let known = code_ok(component);
-    let fits = item_ok(component);
-    let named = parts_ok(m);
-    let carried = carried_bad(m);
-    let fifth = either(named, carried, 5);
-    let fourth = either(fits, fifth, 4);
-    let third = either(known, fourth, 3);
-    let second = either(m.cause <= 127, third, 2);
-    either((IAM <= m.kind) & (m.kind <= FAC), second, 1)
+    if m.kind < IAM || FAC < m.kind {
+        Some(1)
+    } else if 127 < m.cause {
+        Some(2)
+    } else if !code_ok(m.component) {
+        Some(3)
+    } else if !item_ok(m.component) {
+        Some(4)
+    } else if !parts_ok(m) {
+        Some(5)
+    } else {
+        carried_bad(m)
+    }
 }
 
-pub fn access_bad(a: u8, n: u8) -> u8
-    ensures { result ≡ first_false 1 (access_ranges a n) }
+pub fn access_bad(a: u8, n: u8) -> Option<u8>
+    ensures { result ≡ ordinal (first_false 1 (access_ranges a n)) }
 {
-    let second = either((a == 2) | (n == 0), 0, 2);
-    either((1 <= a) & (a <= 5), second, 1)
+    if a < 1 || 5 < a {
+        Some(1)
+    } else if a != 2 && n != 0 {
+        Some(2)
+    } else {
+        None
+    }
 }
 
-pub fn time_bad(seconds: u32) -> u8
-    ensures { result ≡ first_false 1 (time_ranges seconds) }
+pub fn time_bad(seconds: u32) -> Option<u8>
+    ensures { result ≡ ordinal (first_false 1 (time_ranges seconds)) }
 {
-    either(seconds <= DAY, 0, 1)
+    if DAY < seconds { Some(1) } else { None }
 }
 
-pub(crate) fn bad_field(e: Event) -> u8
-    ensures { result ≡ bad_field_of e }
+pub fn bad_field(e: Event) -> Option<u8>
+    ensures { result ≡ ordinal (bad_field_of e) }
 {
     match e {
         Event::Opening(role, flags, own) => opening_bad(role, flags, own),
         Event::Ask(q, n) => ask_bad(q, n),
         Event::Received(m) => message_bad(m),
         Event::FromAccess(a, n) => access_bad(a, n),
-        Event::Expiry => 0,
+        Event::Expiry => None,
         Event::Time(seconds) => time_bad(seconds),
     }
 }

@@ -8,6 +8,6 @@ pub returns-then-o-eq-APPLIED-clause-put : goal.returns-then-o-eq-APPLIED-clause
 unfolding record_text
 returns-then-o-eq-APPLIED-clause-put c = search (puts, rules)
 
-pub returns-clause-put : goal.returns-clause-put
+pub returns-else-o-eq-APPLIED-clause-put : goal.returns-else-o-eq-APPLIED-clause-put
 unfolding record_text
-returns-clause-put c = search (puts, rules)
+returns-else-o-eq-APPLIED-clause-put c = search (puts, rules)

@@ -1,13 +1,9 @@
-use borrow.Author.Rules.{rules}
-use Rattle.std.proofs.Common.{rules}
-use Rattle.files.specs.Messages.{text_if}
-use Rattle.text.proofs.Laws.{puts}
+use Rattle.text.proofs.Laws.{put_none}
+use Rattle.files.proofs.Texts.{put_so, put_not}
 use Rattle.files.proofs.words.put_number_if.Goals as goal
 
-pub returns-then-present-eq1-clause-put : goal.returns-then-present-eq1-clause-put
-unfolding text_if
-returns-then-present-eq1-clause-put c = search (puts, rules)
+pub returns-then-present-clause-put : goal.returns-then-present-clause-put
+returns-then-present-clause-put c = put_so _ _ _ _ _ _ _ c.if-present.true c.put_with_number.ensures.put
 
-pub returns-clause-put : goal.returns-clause-put
-unfolding text_if
-returns-clause-put c = search (puts, rules)
+pub returns-else-present-clause-put : goal.returns-else-present-clause-put
+returns-else-present-clause-put c = put_not _ _ _ _ _ _ _ c.if-present.false (put_none _ _)

@@ -8,6 +8,6 @@ pub returns-then-n-eq0-clause-put : goal.returns-then-n-eq0-clause-put
 unfolding unless_zero
 returns-then-n-eq0-clause-put c = search (puts, rules)
 
-pub returns-clause-put : goal.returns-clause-put
+pub returns-else-n-eq0-clause-put : goal.returns-else-n-eq0-clause-put
 unfolding unless_zero
-returns-clause-put c = search (puts, rules)
+returns-else-n-eq0-clause-put c = search (puts, rules)

@@ -9,5 +9,6 @@ returns-then-n-lt1000000000-clause-put c = put_short _ _ _ _ _ (omega arith) c.p
 pub returns-then-n-lt1000000000000000000-clause-put : goal.returns-then-n-lt1000000000000000000-clause-put
 returns-then-n-lt1000000000000000000-clause-put c = put_long _ _ _ _ _ 9 9 (omega arith) (put_after c.put_digits.ensures.put c.put_dec-to.ensures.put)
 
-pub returns-clause-put : goal.returns-clause-put
-returns-clause-put c = put_long _ _ _ _ _ 1 18 (omega arith) (put_after c.put_digits-2.ensures.put c.put_dec-to-2.ensures.put)
+pub returns-else-n-lt1000000000000000000-clause-put : goal.returns-else-n-lt1000000000000000000-clause-put
+returns-else-n-lt1000000000000000000-clause-put c = put_long _ _ _ _ _ 1 18 (omega arith)
+    (put_after c.put_digits-else-n-lt1000000000000000000.ensures.put c.put_dec-to-else-n-lt1000000000000000000.ensures.put)

@@ -3,5 +3,8 @@ use Rattle.std.proofs.Common.{rules}
 use Rattle.files.proofs.Puts.{number_put, number_not_put}
 use Rattle.files.proofs.write.put_number_if.Goals as goal
 
-pub returns-clause-put : goal.returns-clause-put
-returns-clause-put c = search (number_put, number_not_put, rules)
+pub returns-then-present-eq1-clause-put : goal.returns-then-present-eq1-clause-put
+returns-then-present-eq1-clause-put c = search (number_put, number_not_put, rules)
+
+pub returns-else-present-eq1-clause-put : goal.returns-else-present-eq1-clause-put
+returns-else-present-eq1-clause-put c = search (number_put, number_not_put, rules)
