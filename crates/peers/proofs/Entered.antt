@@ -23,7 +23,6 @@ use Rattle.rows.specs.declared.Message.{Message}
 use Rattle.wire.specs.Grammar.{component_of}
 use Rattle.wire.specs.Parameters.{Parameter, refused, holds, before, onward, walk_of}
 use Rattle.wire.specs.Texts.{leaves_of}
-use Rattle.wire.specs.declared.Answer.{Answer}
 use Rattle.wire.specs.declared.Component.{Component}
 use Rattle.wire.proofs.Fits.{FitsAll, FitsHeld}
 use Rattle.wire.proofs.Places.{Placed, component_placed}
@@ -33,6 +32,8 @@ use Rattle.peers.specs.Entries.{ended_of, kept_of, Keeps, KeptWithin}
 use Rattle.peers.specs.Messages.{heard_of, received_of, no_component}
 use Rattle.peers.specs.declared.Kept.{Kept}
 use Rattle.peers.proofs.Ranges.{fits_ranged, none_ranged, carrier_small}
+use Rattle.wire.specs.Answers.{Answer, refusal}
+use Rattle.std.specs.Prelude.{Ok, Err}
 
 -- ---- sizes
 
@@ -322,7 +323,7 @@ module _ (s : List ℕ) (at message cause : ℕ) (old : List ℕ) (to : ℕ) whe
     placed : Placed (length s) a
     placed = subst (Placed (length s)) (sym e) (component_placed s at (omega arith))
 
-    pub keep_refused : (n place : ℕ) → length s ≤ 257 → a ≡ Answer.Refused n place
+    pub keep_refused : (n place : ℕ) → length s ≤ 257 → a ≡ Err (refusal n place)
         → Keeps message cause (walk_of s at) old to (Kept.Refused n place) old × KeptWithin (Kept.Refused n place)
     unfolding onward Keeps KeptWithin
     keep_refused n place few f =
@@ -331,7 +332,7 @@ module _ (s : List ℕ) (at message cause : ℕ) (old : List ℕ) (to : ℕ) whe
           omega arith,
         )
 
-    module _ (c : Component) (next : ℕ) (f : a ≡ Answer.Read c next) where
+    module _ (c : Component) (next : ℕ) (f : a ≡ Ok (c, next)) where
       pub keep_near : next ≤ length s
       keep_near = subst (Placed (length s)) f placed
 

@@ -21,9 +21,7 @@ use Rattle.wire.specs.Parameters.{Parameter, holds, before, onward, walk_of, fra
 use Rattle.wire.specs.Texts.{parameter_text}
 use Rattle.wire.specs.Writable.{bad_of}
 use Rattle.wire.specs.Texts.{leaves_of, written_of as wireWritten}
-use Rattle.wire.specs.declared.Answer.{Answer}
 use Rattle.wire.specs.declared.Component.{Component}
-use Rattle.wire.specs.declared.Frame.{Frame}
 use Rattle.wire.specs.declared.Written.{Written}
 use Rattle.wire.proofs.Fits.{FitsHeld, read_fits, walk_fits}
 use Rattle.wire.proofs.Places.{Placed, component_placed, parameter_most}
@@ -34,22 +32,24 @@ use Rattle.peers.specs.Messages.{no_component, carried_of, sent_of}
 use Rattle.peers.proofs.Entered.{Gave, gives_bad, Carried, Reads}
 use Rattle.peers.proofs.Ranges.{fits_ranged, none_ranged}
 use Rattle.peers.proofs.Same.{Entered, Sent}
+use Rattle.wire.specs.Answers.{Answer, Frame, refusal}
+use Rattle.std.specs.Prelude.{Ok, Err}
 
 -- ---- a parameter: its own bytes, then its components
 
 module _ (s : List ℕ) (f : Frame) (b : Bounded s f) where
-  pub bad_small : (n place : ℕ) → f ≡ Frame.Bad n place → place < 2 ^ 23
+  pub bad_small : (n place : ℕ) → f ≡ Err (refusal n place) → place < 2 ^ 23
   bad_small n place e = let h : place ≤ 2 = subst (Bounded s) e b in omega arith
 
-  pub good_bounds : f ≡ Frame.Good → (3 ≤ length s) × (length s ≤ 257)
+  pub good_bounds : f ≡ Ok tt → (3 ≤ length s) × (length s ≤ 257)
   good_bounds e = subst (Bounded s) e b
 
 module _ (s : List ℕ) (message cause : ℕ) (out : List ℕ) (f : Frame) (e : f ≡ framed_of s) where
-  pub framed_bad : (n place r : ℕ) → f ≡ Frame.Bad n place → r ≡ with_rest n place → Entered s message cause out r out
+  pub framed_bad : (n place r : ℕ) → f ≡ Err (refusal n place) → r ≡ with_rest n place → Entered s message cause out r out
   unfolding read_gives read_leaves
   framed_bad n place r g h = subst (λ (p : Parameter). Reads message cause p out r out) (sym (bad_refused s n place (sym e ∙ g))) (h, refl)
 
-  pub framed_good : (r : ℕ) (new : List ℕ) → f ≡ Frame.Good → Reads message cause (walk_of s 3) out r new → Entered s message cause out r new
+  pub framed_good : (r : ℕ) (new : List ℕ) → f ≡ Ok tt → Reads message cause (walk_of s 3) out r new → Entered s message cause out r new
   framed_good r new g h = subst (λ (p : Parameter). Reads message cause p out r new) (sym (good_walk s (sym e ∙ g))) h
 
 -- what a parameter holds fits
@@ -57,8 +57,8 @@ pub parameter_fits : (s : List ℕ) → FitsHeld (parameter_of s)
 parameter_fits s = by (framed_of s) refl
   where
     by : (f : Frame) → framed_of s ≡ f → FitsHeld (parameter_of s)
-    by (Frame.Bad n place) e = subst FitsHeld (sym (bad_refused s n place e)) tt
-    by Frame.Good e = subst FitsHeld (sym (good_walk s e)) (walk_fits s 3)
+    by (Err stop) e = subst FitsHeld (sym (bad_refused s stop.number stop.place e)) tt
+    by (Ok u) e = subst FitsHeld (sym (good_walk s e)) (walk_fits s 3)
 
 pub none_carried : (message cause : ℕ) (c : Component) → c ≡ no_component → Carried message cause c
 none_carried message cause c e = subst (Carried message cause) (sym e) (none_ranged message cause)
@@ -78,15 +78,15 @@ module _ (s : List ℕ) (message cause : ℕ) (out : List ℕ) where
     placed : Placed (length s) a
     placed = subst (Placed (length s)) (sym e) (component_placed s 3 (omega arith))
 
-    pub first_small : (n place : ℕ) → a ≡ Answer.Refused n place → length s ≤ 257 → place < 2 ^ 23
+    pub first_small : (n place : ℕ) → a ≡ Err (refusal n place) → length s ≤ 257 → place < 2 ^ 23
     first_small n place f h = let p : place ≤ length s = subst (Placed (length s)) f placed in omega arith
 
-    pub first_refused : (n place r : ℕ) → a ≡ Answer.Refused n place → r ≡ with_rest n place → Reads message cause (walk_of s 3) out r out
+    pub first_refused : (n place r : ℕ) → a ≡ Err (refusal n place) → r ≡ with_rest n place → Reads message cause (walk_of s 3) out r out
     unfolding read_gives read_leaves onward
     first_refused n place r f g =
         subst (λ (p : Parameter). Reads message cause p out r out) (sym (on ∙ ap (λ (x : Answer). onward x (walk_of s)) f)) (g, refl)
 
-    module _ (c : Component) (next : ℕ) (f : a ≡ Answer.Read c next) where
+    module _ (c : Component) (next : ℕ) (f : a ≡ Ok (c, next)) where
       pub first_carried : Carried message cause c
       first_carried = fits_ranged message cause c (read_fits s 3 next c (sym e ∙ f))
 

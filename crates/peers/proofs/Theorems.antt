@@ -24,7 +24,6 @@ use Rattle.wire.specs.Grammar.{component_of}
 use Rattle.wire.specs.Parameters.{Parameter, refused, holds, parameter_of}
 use Rattle.wire.specs.Texts.{parameter_text, leaves_of}
 use Rattle.wire.specs.Writable.{item_ok, bad_of, writable_of}
-use Rattle.wire.specs.declared.Answer.{Answer}
 use Rattle.wire.specs.declared.Component.{Component}
 use Rattle.wire.proofs.Fits.{FitsHeld, read_fits}
 use Rattle.wire.proofs.Numbered.{NumberedWhole, parameter_numbered}
@@ -38,6 +37,8 @@ use Rattle.peers.proofs.Hosted.{parameter_fits, none_in}
 use Rattle.peers.proofs.Ranges.{fits_ranged}
 use Rattle.peers.proofs.Sendings
 use Rattle.peers.proofs.Sendings.{is_there}
+use Rattle.wire.specs.Answers.{Answer}
+use Rattle.std.specs.Prelude.{Ok}
 
 -- An error is one of REV's to the rows, which have the module's list, exactly if the wire has a place for it, where the module's errors are
 -- a range: none is passed on that cannot be written, and none that is read is told to a user as another.
@@ -68,7 +69,7 @@ sent_received = Backs.received_back
 
 -- No component that is read off the wire is out of range: of its event 3 can be said for the message's kind, field 1, and cause, field 2,
 -- alone ..
-pub read_in_range : (s : List ℕ) (at next message cause : ℕ) (c : Component) → component_of s at ≡ Answer.Read c next →
+pub read_in_range : (s : List ℕ) (at next message cause : ℕ) (c : Component) → component_of s at ≡ Ok (c, next) →
     bad_field_of (received_of message cause c) ≡ carrier_bad message cause
 unfolding received_of
 read_in_range s at next message cause c e = fits_ranged message cause c (read_fits s at next c e)

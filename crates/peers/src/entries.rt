@@ -11,7 +11,7 @@ ghost use Rattle.peers.specs.Messages.{heard_of};
 use crate::Kept;
 use crate::messages::heard;
 use rows::Message;
-use wire::{Answer, Component};
+use wire::Component;
 
 pub(crate) const BAD_FIELD: u8 = 3;
 
@@ -98,8 +98,8 @@ fn keep(s: &[u8], at: usize, message: u8, cause: u8, out: &mut [u8], to: usize) 
     }
     let a = wire::read_component(s, at);
     match a {
-        Answer::Refused(n, place) => Kept::Refused(n, place),
-        Answer::Read(c, next) => {
+        Err(r) => Kept::Refused(r.number, r.place),
+        Ok((c, next)) => {
             let m = heard(message, cause, c);
             let k = keep(s, next, message, cause, out, to + entry_size(m));
             match k {

@@ -12,7 +12,7 @@ use crate::entries::{BAD_FIELD, with_rest, write_one, write_several};
 use crate::messages::{carried, none};
 use files::Read;
 use rows::{Event, Message};
-use wire::{Answer, Component, Frame, Written};
+use wire::{Component, Written};
 
 const CUT_SHORT: u32 = 5;
 
@@ -29,8 +29,8 @@ fn read_components(parameter: &[u8], message: u8, cause: u8, out: &mut [u8]) -> 
     }
     let a = wire::read_component(parameter, 3);
     match a {
-        Answer::Refused(n, place) => with_rest(n, place),
-        Answer::Read(c, next) => {
+        Err(r) => with_rest(r.number, r.place),
+        Ok((c, next)) => {
             if parameter.len() <= next {
                 return write_one(message, cause, c, out);
             }
@@ -46,8 +46,8 @@ pub fn rev_read_parameter(parameter: &[u8], message: u8, cause: u8, out: &mut [u
 {
     let f = wire::framed(parameter);
     match f {
-        Frame::Bad(n, place) => with_rest(n, place),
-        Frame::Good => read_components(parameter, message, cause, out),
+        Err(r) => with_rest(r.number, r.place),
+        Ok(()) => read_components(parameter, message, cause, out),
     }
 }
 

@@ -14,14 +14,14 @@ use Rattle.wire.specs.Grammar.{invoke_of, result_of, error_of, reject_of, kind_o
 use Rattle.wire.specs.Parameters.{holds, before, onward, walk_of, framed_of, parameter_of}
 use Rattle.wire.specs.Texts.{element_text, parts_text, seq_text, id_text, rejected_text, code_text, invoke_text, held_text, result_text, error_text, reject_text, component_text, parameter_text}
 use Rattle.wire.specs.Writable.{argument_ok, result_ok, writable_of}
-use Rattle.wire.specs.declared.Answer.{Answer}
 use Rattle.wire.specs.declared.Component.{Component}
-use Rattle.wire.specs.declared.Frame.{Frame}
 use Rattle.wire.proofs.Pieces.{by_invoke, by_result, by_error, by_reject}
 use Rattle.wire.proofs.Back.{Holds, holds_right, holds_after, holds_take, head_here}
 use Rattle.wire.proofs.Goods.{Good, Kinds, calls, answers, fails, rejects, Sized, written_good, parts_short}
 use Rattle.wire.proofs.Round.{invoke_back, result_back, error_back, reject_named, reject_nameless}
 use Rattle.wire.proofs.Walks.{walk_end, walk_on, good_walk}
+use Rattle.wire.specs.Answers.{Answer, Frame}
+use Rattle.std.specs.Prelude.{Ok}
 
 six : (x : ℕ) → length (id_text x ++ (128 ∷ 1 ∷ 0 ∷ [])) ≡ 6
 unfolding id_text
@@ -79,11 +79,11 @@ module _ (s : List ℕ) (q : ℕ) (c : Component) (g : Good c) where
     unfolding kind_of if_eq if_so
     kind_reject = refl
 
-  read_to : (i j : ℕ) → i ≡ j → Answer.Read c i ≡ Answer.Read c j
-  read_to i j e = ap (Answer.Read c) e
+  read_to : (i j : ℕ) → i ≡ j → ◌≡◌ {A = Answer} (Ok (c, i)) (Ok (c, j))
+  read_to i j e = ap (λ (w : ℕ). Ok (c, w)) e
 
   as_invoke : c.kind ≡ 1 → c.id < 256 → 1 ≤ c.item → c.item ≤ 3 → argument_ok c.item c.parts ≡ 1 → Holds s q (invoke_text c) → q + length (invoke_text c) ≤ length s
-      → component_of s q ≡ Answer.Read c (q + length (invoke_text c))
+      → component_of s q ≡ Ok (c, q + length (invoke_text c))
   unfolding invoke_text
   as_invoke k u v w e h r =
       let t : List ℕ = id_text c.id ++ code_text c.item ++ seq_text c in
@@ -95,7 +95,7 @@ module _ (s : List ℕ) (q : ℕ) (c : Component) (g : Good c) where
       ∙ read_to (length (mine t)) (q + length (element_text 161 t)) (l ∙ sum 161 t)
 
   as_result : c.kind ≡ 2 → c.id < 256 → 1 ≤ c.item → c.item ≤ 3 → result_ok c.item c.parts ≡ 1 → Holds s q (result_text c) → q + length (result_text c) ≤ length s
-      → component_of s q ≡ Answer.Read c (q + length (result_text c))
+      → component_of s q ≡ Ok (c, q + length (result_text c))
   unfolding result_text
   as_result k u v w e h r =
       let t : List ℕ = id_text c.id ++ held_text c in
@@ -107,7 +107,7 @@ module _ (s : List ℕ) (q : ℕ) (c : Component) (g : Good c) where
       ∙ read_to (length (mine t)) (q + length (element_text 162 t)) (l ∙ sum 162 t)
 
   as_error : c.kind ≡ 3 → c.id < 256 → 4 ≤ c.item → c.item ≤ 12 → c.parts ≡ 0 → Holds s q (error_text c) → q + length (error_text c) ≤ length s
-      → component_of s q ≡ Answer.Read c (q + length (error_text c))
+      → component_of s q ≡ Ok (c, q + length (error_text c))
   unfolding error_text
   as_error k u v w e h r =
       let t : List ℕ = id_text c.id ++ code_text c.item in
@@ -118,12 +118,12 @@ module _ (s : List ℕ) (q : ℕ) (c : Component) (g : Good c) where
       ∙ read_to (length (mine t)) (q + length (element_text 163 t)) (l ∙ sum 163 t)
 
   as_reject : c.kind ≡ 4 → c.id ≤ 256 → c.item ≡ 0 → c.parts ≡ 0 → Holds s q (reject_text c) → q + length (reject_text c) ≤ length s
-      → component_of s q ≡ Answer.Read c (q + length (reject_text c))
+      → component_of s q ≡ Ok (c, q + length (reject_text c))
   unfolding reject_text rejected_text
   as_reject k u v e =
       both_eq c.id 256
       (λ (l : List ℕ). Holds s q (element_text 164 (l ++ (128 ∷ 1 ∷ 0 ∷ []))) → q + length (element_text 164 (l ++ (128 ∷ 1 ∷ 0 ∷ []))) ≤ length s
-      → component_of s q ≡ Answer.Read c (q + length (element_text 164 (l ++ (128 ∷ 1 ∷ 0 ∷ [])))))
+      → component_of s q ≡ Ok (c, q + length (element_text 164 (l ++ (128 ∷ 1 ∷ 0 ∷ [])))))
       (5 ∷ 0 ∷ []) (id_text c.id)
       (λ y h r. let t : List ℕ = 5 ∷ 0 ∷ 128 ∷ 1 ∷ 0 ∷ [] in
       let l = own 164 t r in
@@ -141,23 +141,23 @@ module _ (s : List ℕ) (q : ℕ) (c : Component) (g : Good c) where
       below y = omega arith
 
   by_kinds : Kinds c.kind c.item c.parts c.id → Holds s q (component_text c) → q + length (component_text c) ≤ length s
-      → component_of s q ≡ Answer.Read c (q + length (component_text c))
+      → component_of s q ≡ Ok (c, q + length (component_text c))
   by_kinds (calls k i l h a) =
-      subst (λ (t : List ℕ). Holds s q t → q + length t ≤ length s → component_of s q ≡ Answer.Read c (q + length t)) (by_invoke c (invoke_text c) k refl)
+      subst (λ (t : List ℕ). Holds s q t → q + length t ≤ length s → component_of s q ≡ Ok (c, q + length t)) (by_invoke c (invoke_text c) k refl)
       (as_invoke k i l h a)
   by_kinds (answers k i l h a) =
-      subst (λ (t : List ℕ). Holds s q t → q + length t ≤ length s → component_of s q ≡ Answer.Read c (q + length t)) (by_result c (result_text c) (λ e. omega arith) k refl)
+      subst (λ (t : List ℕ). Holds s q t → q + length t ≤ length s → component_of s q ≡ Ok (c, q + length t)) (by_result c (result_text c) (λ e. omega arith) k refl)
       (as_result k i l h a)
   by_kinds (fails k i l h p) =
-      subst (λ (t : List ℕ). Holds s q t → q + length t ≤ length s → component_of s q ≡ Answer.Read c (q + length t)) (by_error c (error_text c) (λ e. omega arith) (λ e. omega arith) k refl)
+      subst (λ (t : List ℕ). Holds s q t → q + length t ≤ length s → component_of s q ≡ Ok (c, q + length t)) (by_error c (error_text c) (λ e. omega arith) (λ e. omega arith) k refl)
       (as_error k i l h p)
   by_kinds (rejects k u n p) =
-      subst (λ (t : List ℕ). Holds s q t → q + length t ≤ length s → component_of s q ≡ Answer.Read c (q + length t))
+      subst (λ (t : List ℕ). Holds s q t → q + length t ≤ length s → component_of s q ≡ Ok (c, q + length t))
       (by_reject c (reject_text c) (λ e. omega arith) (λ e. omega arith) (λ e. omega arith) refl) (as_reject k u n p)
 
 -- a written component is read as itself wherever it stands, and the place after it is found
 pub read_back : (s : List ℕ) (q : ℕ) (c : Component) → Sized c → writable_of c ≡ 1 → Holds s q (component_text c) → q + length (component_text c) ≤ length s
-    → component_of s q ≡ Answer.Read c (q + length (component_text c))
+    → component_of s q ≡ Ok (c, q + length (component_text c))
 read_back s q c z e = let w = written_good c z e in by_kinds s q c w.0 w.1
 
 -- ---- a parameter of one
@@ -165,12 +165,12 @@ read_back s q c z e = let w = written_good c z e in by_kinds s q c w.0 w.1
 holds_three : (x y z : ℕ) (t : List ℕ) → Holds (x ∷ y ∷ z ∷ t) 3 t
 holds_three x y z t = holds_right (x ∷ y ∷ z ∷ t) 0 (x ∷ y ∷ z ∷ []) t (λ j h. ap (byte_at (x ∷ y ∷ z ∷ t)) (zero-add j))
 
-walk_one : (s : List ℕ) (c : Component) (q : ℕ) → q < length s → component_of s q ≡ Answer.Read c (length s) → walk_of s q ≡ holds (c ∷ [])
+walk_one : (s : List ℕ) (c : Component) (q : ℕ) → q < length s → component_of s q ≡ Ok (c, length s) → walk_of s q ≡ holds (c ∷ [])
 unfolding onward before
 walk_one s c q h e = walk_on s q h ∙ ap (λ (a : Answer). onward a (walk_of s)) e ∙ ap (before c) (walk_end s (length s) (omega arith))
 
 -- a parameter that is as long as it says, of any components
-pub frame_said : (t : List ℕ) (n : ℕ) → n ≡ length t + 1 → framed_of (50 ∷ n ∷ 145 ∷ t) ≡ Frame.Good
+pub frame_said : (t : List ℕ) (n : ℕ) → n ≡ length t + 1 → framed_of (50 ∷ n ∷ 145 ∷ t) ≡ Ok tt
 unfolding framed_of
 frame_said t n e =
     sym (no_lt _ _ _ _ _ (omega arith)
@@ -180,10 +180,10 @@ frame_said t n e =
     (yes_eq _ _ _ _ _ refl
     (yes_eq _ _ _ _ _ refl refl))))))
 
-one_in : (c : Component) (t : List ℕ) (n : ℕ) → n ≡ length t + 1 → component_of (50 ∷ n ∷ 145 ∷ t) 3 ≡ Answer.Read c (3 + length t) → 1 ≤ length t → parameter_of (50 ∷ n ∷ 145 ∷ t) ≡ holds (c ∷ [])
+one_in : (c : Component) (t : List ℕ) (n : ℕ) → n ≡ length t + 1 → component_of (50 ∷ n ∷ 145 ∷ t) 3 ≡ Ok (c, 3 + length t) → 1 ≤ length t → parameter_of (50 ∷ n ∷ 145 ∷ t) ≡ holds (c ∷ [])
 one_in c t n e f h =
     let z : 3 + length t ≡ length (50 ∷ n ∷ 145 ∷ t) = omega arith in
-    good_walk (50 ∷ n ∷ 145 ∷ t) (frame_said t n e) ∙ walk_one (50 ∷ n ∷ 145 ∷ t) c 3 (omega arith) (f ∙ ap (Answer.Read c) z)
+    good_walk (50 ∷ n ∷ 145 ∷ t) (frame_said t n e) ∙ walk_one (50 ∷ n ∷ 145 ∷ t) c 3 (omega arith) (f ∙ ap (λ (w : ℕ). Ok (c, w)) z)
 
 begins : (c : Component) → 1 ≤ length (component_text c)
 unfolding component_text invoke_text result_text error_text reject_text element_text

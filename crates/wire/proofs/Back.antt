@@ -13,9 +13,10 @@ use Rattle.wire.specs.Bytes.{byte_at}
 use Rattle.wire.specs.Heads.{filled_of, length_of, head_of}
 use Rattle.wire.specs.Cursors.{absent_of, opened_of, inside_of, may_of, need_of, closed_of, rest_of}
 use Rattle.wire.specs.declared.Cursor.{Cursor}
-use Rattle.wire.specs.declared.Head.{Head}
 use Rattle.wire.proofs.Lengths.{head_near, from_full}
 use Rattle.wire.proofs.Steps.{look_same, size_fits, need_look, may_end, may_here, may_not, rest_none}
+use Rattle.wire.specs.Answers.{Head, element}
+use Rattle.std.specs.Prelude.{Ok}
 
 -- ---- bytes that stand at a place
 
@@ -47,7 +48,7 @@ holds_take s k i t h f j l = get_or-take k s (i + j) 0 (omega arith) ∙ f j l
 -- ---- an element of a short length
 
 pub head_here : (s : List ℕ) (p end short tag n : ℕ) (t : List ℕ) → Holds s p (tag ∷ n ∷ t) → (tag % 32 ≡ 31 → ⊥) → n < 128 → p + 2 + n ≤ end
-    → Head.Open tag (p + 2) (p + 2 + n) ≡ head_of s p end short
+    → Ok (element tag (p + 2) (p + 2 + n)) ≡ head_of s p end short
 unfolding length_of filled_of
 head_here s p end short tag n t f k h l =
     let b : byte_at s p ≡ tag = holds_first s p tag (n ∷ t) f in
@@ -87,9 +88,9 @@ module _ (s : List ℕ) (c : Cursor) (p end tag least most : ℕ) (r : Ready c p
       → opened_of (p + 2) (p + 2 + n) ≡ need_of s c end tag least most
   need_there n t f k h l a b =
       let e = r.place in
-      need_look s c end tag least most _ r.zeroed (Head.Open tag (p + 2) (p + 2 + n)) (omega arith)
+      need_look s c end tag least most _ r.zeroed (Ok (element tag (p + 2) (p + 2 + n))) (omega arith)
       (rw e (head_here s p end 12 tag n t f k h l))
-      (rw e (look_same (Head.Open tag (p + 2) (p + 2 + n)) p tag least most _ tag (p + 2) (p + 2 + n) refl refl
+      (rw e (look_same (Ok (element tag (p + 2) (p + 2 + n))) p tag least most _ (element tag (p + 2) (p + 2 + n)) refl refl
       (size_fits p (p + 2) (p + 2 + n) least most n _ (omega arith) a b refl)))
 
   pub may_there : (n : ℕ) (t : List ℕ) → Holds s p (tag ∷ n ∷ t) → (tag % 32 ≡ 31 → ⊥) → n < 128 → p + 2 + n ≤ end → least ≤ n → n ≤ most

@@ -9,30 +9,30 @@ use Rattle.wire.specs.Heads.{head_of}
 use Rattle.wire.specs.Elements.{enter, follow, element_by, sequence_by, sequence_of}
 use Rattle.wire.specs.Cursors.{stopped_of, absent_of, opened_of, inside_of, sized_of, look_of, may_of, need_of, closed_of, checked_of, seen_of, rest_of}
 use Rattle.wire.specs.declared.Cursor.{Cursor}
-use Rattle.wire.specs.declared.Head.{Head}
-use Rattle.wire.specs.declared.Seen.{Seen}
 use Rattle.wire.proofs.Levels.{HeadWithin, head_within, Within, Ends, element_by_within, sequence_ends}
 use Rattle.wire.proofs.Walks.{Twelve, head_twelve, extra_stops}
+use Rattle.wire.specs.Answers.{Head, Seen}
+use Rattle.std.specs.Prelude.{Ok, Err}
 
 -- ---- a refusal's number is 12, 13 or 14
 
 abbrev pub Told : Seen → Type 0
-Told (Seen.Stop n place) = (12 ≤ n) × (n ≤ 14)
-Told (Seen.Read next) = Unit {0}
+Told (Err stop) = (12 ≤ stop.number) × (stop.number ≤ 14)
+Told (Ok next) = Unit {0}
 
 enter_told : (h : Head) (at end depth known : ℕ) (held : ℕ → ℕ → ℕ → ℕ → Seen) → HeadWithin at end h → Twelve h
     → ((body next d n : ℕ) → at + 2 ≤ body → body ≤ next → next ≤ end → Told (held body next d n)) → Told (enter h at depth known held)
 unfolding enter
-enter_told (Head.Bad n) at end depth known held w t f = (omega arith, omega arith)
-enter_told (Head.Open tag body next) at end depth known held (h, g, i) t f =
+enter_told (Err n) at end depth known held w t f = (omega arith, omega arith)
+enter_told (Ok el) at end depth known held (h, g, i) t f =
     both_eq _ _ Told _ _ (λ _. (omega arith, omega arith)) λ _.
     both_eq _ _ Told _ _ (λ _. (omega arith, omega arith)) λ _.
-    both_eq _ _ Told _ _ (λ _. f body next (depth - 1) 0 h g i) (λ _. tt)
+    both_eq _ _ Told _ _ (λ _. f el.body el.next (depth - 1) 0 h g i) (λ _. tt)
 
 follow_told : (x : Seen) (at end : ℕ) (rest : ℕ → Seen) → Told x → Within at end x → ((next : ℕ) → at + 2 ≤ next → next ≤ end → Told (rest next)) → Told (follow x rest)
 unfolding follow
-follow_told (Seen.Stop n place) at end rest h w f = h
-follow_told (Seen.Read next) at end rest h (g, i) f = f next g i
+follow_told (Err stop) at end rest h w f = h
+follow_told (Ok next) at end rest h (g, i) f = f next g i
 
 mutual
   unfolding element_by
@@ -84,9 +84,9 @@ sized_took c inner next end least most z a b d =
 look_took : (c : Cursor) (h : Head) (end tag least most : ℕ) → c.number ≡ 0 → HeadWithin c.at end h → Twelve h
     → Live (λ (e : Cursor). Took c e end least most) (look_of h c.at tag least most)
 unfolding look_of stopped_of
-look_took c (Head.Bad n) end tag least most z w t = λ e. absurd (omega arith)
-look_took c (Head.Open u inner next) end tag least most z (a, b, d) t =
-    both_eq _ _ (Live (λ (e : Cursor). Took c e end least most)) _ _ (λ _. sized_took c inner next end least most z a b d) (λ _ e. absurd (omega arith))
+look_took c (Err n) end tag least most z w t = λ e. absurd (omega arith)
+look_took c (Ok el) end tag least most z (a, b, d) t =
+    both_eq _ _ (Live (λ (e : Cursor). Took c e end least most)) _ _ (λ _. sized_took c el.body el.next end least most z a b d) (λ _ e. absurd (omega arith))
 
 pub need_took : (s : List ℕ) (c : Cursor) (end tag least most : ℕ) → Live (λ (e : Cursor). Took c e end least most) (need_of s c end tag least most)
 unfolding need_of stopped_of
@@ -114,8 +114,8 @@ checked_live ok from c =
 
 seen_ends : (x : Seen) (end : ℕ) → Told x → Ends end x → (seen_of x).number ≡ 0 → (seen_of x).at ≡ end
 unfolding seen_of absent_of stopped_of
-seen_ends (Seen.Read next) end t e z = e
-seen_ends (Seen.Stop n place) end (g, h) e z = absurd (omega arith)
+seen_ends (Ok next) end t e z = e
+seen_ends (Err stop) end (g, h) e z = absurd (omega arith)
 
 -- what is not known goes to the holder's end
 pub rest_ends : (s : List ℕ) (c : Cursor) (end depth known : ℕ) → (rest_of s c end depth known).number ≡ 0 → (c.number ≡ 0) × (c.at ≤ (rest_of s c end depth known).at) × (c.at ≤ end → (rest_of s c end depth known).at ≤ end)

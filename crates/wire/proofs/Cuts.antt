@@ -9,8 +9,9 @@ use lib.Seq.{get_or-take}
 use Rattle.text.proofs.Cases.{yes_lt, no_lt, yes_le, no_le, yes_eq, no_eq, both_lt, both_le, both_eq}
 use Rattle.wire.specs.Bytes.{byte_at, big_at}
 use Rattle.wire.specs.Heads.{tag_by, tag_after, length_place, filled_of, length_of, head_from, head_of}
-use Rattle.wire.specs.declared.Head.{Head}
 use Rattle.wire.proofs.Lengths.{place_past, head_none}
+use Rattle.wire.specs.Answers.{Head, element}
+use Rattle.std.specs.Prelude.{Ok, Err}
 
 -- s and t have the same bytes below n
 abbrev pub Alike : List ℕ → List ℕ → ℕ → Type 0
@@ -96,12 +97,12 @@ place_again s t at end last n place a e o h g f =
     far q = after_again s t (at + 1) end last n place a q (omega arith) (omega arith) (omega arith)
 
 abbrev pub Again : List ℕ → ℕ → Head → Type 0
-Again s at (Head.Bad n) = Unit {0}
-Again s at (Head.Open tag body next) = (t : List ℕ) (end short : ℕ) → Alike s t next → next ≤ end → head_of t at end short ≡ Head.Open tag body next
+Again s at (Err n) = Unit {0}
+Again s at (Ok el) = (t : List ℕ) (end short : ℕ) → Alike s t el.next → el.next ≤ end → head_of t at end short ≡ Ok (element el.tag el.body el.next)
 
 abbrev pub Less : List ℕ → ℕ → Head → Type 0
-Less s at (Head.Bad n) = Unit {0}
-Less s at (Head.Open tag body next) = (t : List ℕ) (end short : ℕ) → Alike s t end → end < next → head_of t at end short ≡ Head.Bad short
+Less s at (Err n) = Unit {0}
+Less s at (Ok el) = (t : List ℕ) (end short : ℕ) → Alike s t end → end < el.next → head_of t at end short ≡ Err short
 
 -- a head by its parts
 module _ (t : List ℕ) (at last short place tag first : ℕ) (b : byte_at t at ≡ tag) (z : length_place t at last ≡ place) (c : byte_at t place ≡ first) (o : at < last) where
@@ -113,11 +114,11 @@ module _ (t : List ℕ) (at last short place tag first : ℕ) (b : byte_at t at 
   unfolding head_from
   by_length r h e = by_place r (no_le _ _ _ _ _ h (e ∙ ap (λ (x : ℕ). length_of t tag x (place + 1) last short) (sym c)))
 
-  near_open : first < 128 → place + 1 + first ≤ last → Head.Open tag (place + 1) (place + 1 + first) ≡ head_of t at last short
+  near_open : first < 128 → place + 1 + first ≤ last → Ok (element tag (place + 1) (place + 1 + first)) ≡ head_of t at last short
   unfolding length_of filled_of
   near_open l h = by_length _ (omega arith) (yes_lt _ _ _ _ _ l (no_lt _ _ _ _ _ h refl))
 
-  near_cut : first < 128 → last < place + 1 + first → place < last → Head.Bad short ≡ head_of t at last short
+  near_cut : first < 128 → last < place + 1 + first → place < last → Err short ≡ head_of t at last short
   unfolding length_of filled_of
   near_cut l h i = by_length _ i (yes_lt _ _ _ _ _ l (yes_lt _ _ _ _ _ h refl))
 
@@ -125,21 +126,21 @@ module _ (t : List ℕ) (at last short place tag first : ℕ) (b : byte_at t at 
     abbrev body : ℕ
     body = place + 1 + (first - 128)
 
-    far-open : body + n ≤ last → Head.Open tag body (body + n) ≡ head_of t at last short
+    far-open : body + n ≤ last → Ok (element tag body (body + n)) ≡ head_of t at last short
     unfolding length_of filled_of
     far-open h =
         by_length _ (omega arith)
-        (no_lt _ _ _ _ _ l (no_eq _ _ _ _ _ i (no_eq _ _ _ _ _ j (no_lt _ _ _ _ _ (omega arith) (no_lt _ _ _ _ _ (omega arith) (ap (λ (x : ℕ). Head.Open tag body (body + x)) (sym e)))))))
+        (no_lt _ _ _ _ _ l (no_eq _ _ _ _ _ i (no_eq _ _ _ _ _ j (no_lt _ _ _ _ _ (omega arith) (no_lt _ _ _ _ _ (omega arith) (ap (λ (x : ℕ). Ok (element tag body (body + x))) (sym e)))))))
 
-    far-cut : last < body + n → body ≤ last → Head.Bad short ≡ head_of t at last short
+    far-cut : last < body + n → body ≤ last → Err short ≡ head_of t at last short
     unfolding length_of filled_of
     far-cut h k = by_length _ (omega arith) (no_lt _ _ _ _ _ l (no_eq _ _ _ _ _ i (no_eq _ _ _ _ _ j (no_lt _ _ _ _ _ k (yes_lt _ _ _ _ _ (omega arith) refl)))))
 
-  far_less : 128 ≤ first → (first ≡ 128 → ⊥) → (first ≡ 255 → ⊥) → last < place + 1 + (first - 128) → place < last → Head.Bad short ≡ head_of t at last short
+  far_less : 128 ≤ first → (first ≡ 128 → ⊥) → (first ≡ 255 → ⊥) → last < place + 1 + (first - 128) → place < last → Err short ≡ head_of t at last short
   unfolding length_of
   far_less l i j h k = by_length _ k (no_lt _ _ _ _ _ l (no_eq _ _ _ _ _ i (no_eq _ _ _ _ _ j (yes_lt _ _ _ _ _ h refl))))
 
-place_none : (t : List ℕ) (at last short tag : ℕ) → byte_at t at ≡ tag → at < last → last ≤ length_place t at last → Head.Bad short ≡ head_of t at last short
+place_none : (t : List ℕ) (at last short tag : ℕ) → byte_at t at ≡ tag → at < last → last ≤ length_place t at last → Err short ≡ head_of t at last short
 unfolding head_of head_from
 place_none t at last short tag b o h = no_le _ _ _ _ _ o (yes_le _ _ _ _ _ h refl)
 
@@ -163,24 +164,24 @@ module _ (s : List ℕ) (at end short : ℕ) (o : at < end) where
       same_place : Alike s t next → here < next → next ≤ last → length_place t at last ≡ here
       same_place a g f = place_again s t at end last next here a refl o h g (omega arith)
 
-    near_again : byte_at s here < 128 → Again s at (Head.Open (byte_at s at) (here + 1) (here + 1 + byte_at s here))
+    near_again : byte_at s here < 128 → Again s at (Ok (element (byte_at s at) (here + 1) (here + 1 + byte_at s here)))
     near_again l t last other a g =
         sym (near_open t at last other here (byte_at s at) (byte_at s here) (sym (a at (omega arith)))
         (same_place t last other (here + 1 + byte_at s here) a (omega arith) g) (sym (a here (omega arith))) (omega arith) l g)
 
     -- the bytes end somewhere before it does
-    cut-place : (t : List ℕ) (last other : ℕ) → Alike s t last → last ≤ end → ((at < last) → (here < last) → length_place t at last ≡ here → Head.Bad other ≡ head_of t at last other) → head_of t at last other ≡ Head.Bad other
+    cut-place : (t : List ℕ) (last other : ℕ) → Alike s t last → last ≤ end → ((at < last) → (here < last) → length_place t at last ≡ here → Err other ≡ head_of t at last other) → head_of t at last other ≡ Err other
     cut-place t last other a g f =
-        both_le last at (λ (_ : ℕ). head_of t at last other ≡ Head.Bad other) 0 0
+        both_le last at (λ (_ : ℕ). head_of t at last other ≡ Err other) 0 0
         (λ l. sym (none t last other l))
-        (λ l. both_le last here (λ (_ : ℕ). head_of t at last other ≡ Head.Bad other) 0 0
+        (λ l. both_le last here (λ (_ : ℕ). head_of t at last other ≡ Err other) 0 0
         (λ m. sym (place_none t at last other (byte_at t at) refl l (place_late s t at end last a l g m)))
         (λ m. sym (f l m (place_again s t at end last last here a refl o h m m))))
       where
-        none : (t : List ℕ) (last other : ℕ) → last ≤ at → Head.Bad other ≡ head_of t at last other
+        none : (t : List ℕ) (last other : ℕ) → last ≤ at → Err other ≡ head_of t at last other
         none t last other l = head_none t at last other l
 
-    near-less : byte_at s here < 128 → here + 1 + byte_at s here ≤ end → Less s at (Head.Open (byte_at s at) (here + 1) (here + 1 + byte_at s here))
+    near-less : byte_at s here < 128 → here + 1 + byte_at s here ≤ end → Less s at (Ok (element (byte_at s at) (here + 1) (here + 1 + byte_at s here)))
     near-less l m t last other a g =
         cut-place t last other a (omega arith)
         (λ i j z. near_cut t at last other here (byte_at s at) (byte_at s here) (sym (a at i)) z (sym (a here j)) i l g j)
@@ -189,32 +190,32 @@ module _ (s : List ℕ) (at end short : ℕ) (o : at < end) where
       abbrev after : ℕ
       after = here + 1 + (byte_at s here - 128)
 
-      far-again : Again s at (Head.Open (byte_at s at) after (after + big_at s (here + 1) (byte_at s here - 128)))
+      far-again : Again s at (Ok (element (byte_at s at) after (after + big_at s (here + 1) (byte_at s here - 128))))
       far-again t last other a g =
           let e = big_again s t (here + 1) (byte_at s here - 128) (after + big_at s (here + 1) (byte_at s here - 128)) a (omega arith) in
           sym (far-open t at last other here (byte_at s at) (byte_at s here) (sym (a at (omega arith)))
           (same_place t last other (after + big_at s (here + 1) (byte_at s here - 128)) a (omega arith) g) (sym (a here (omega arith))) (omega arith) l i j _ (sym e) g)
 
-      far-less-again : after + big_at s (here + 1) (byte_at s here - 128) ≤ end → Less s at (Head.Open (byte_at s at) after (after + big_at s (here + 1) (byte_at s here - 128)))
+      far-less-again : after + big_at s (here + 1) (byte_at s here - 128) ≤ end → Less s at (Ok (element (byte_at s at) after (after + big_at s (here + 1) (byte_at s here - 128))))
       far-less-again m t last other a g =
           cut-place t last other a (omega arith)
-          (λ u w z. both_lt last after (λ (_ : ℕ). Head.Bad other ≡ head_of t at last other) 0 0
+          (λ u w z. both_lt last after (λ (_ : ℕ). Err other ≡ head_of t at last other) 0 0
           (λ x. far_less t at last other here (byte_at s at) (byte_at s here) (sym (a at u)) z (sym (a here w)) u l i j x w)
           (λ x. far-cut t at last other here (byte_at s at) (byte_at s here) (sym (a at u)) z (sym (a here w)) u l i j _
           (sym (big_again s t (here + 1) (byte_at s here - 128) last a x)) g x))
 
 -- ---- any head
 
-filled_by : (P : Head → Type 0) (tag body end len short : ℕ) → P (Head.Bad short) → (body + len ≤ end → P (Head.Open tag body (body + len))) → P (filled_of tag body end len short)
+filled_by : (P : Head → Type 0) (tag body end len short : ℕ) → P (Err short) → (body + len ≤ end → P (Ok (element tag body (body + len)))) → P (filled_of tag body end len short)
 unfolding filled_of
 filled_by P tag body end len short f g = both_lt _ _ P _ _ (λ _. f) g
 
-head_all : (P : Head → Type 0) (s : List ℕ) (at end short : ℕ) → P (Head.Bad short) → P (Head.Bad 12)
+head_all : (P : Head → Type 0) (s : List ℕ) (at end short : ℕ) → P (Err short) → P (Err 12)
     → ((o : at < end) (h : length_place s at end < end) → byte_at s (length_place s at end) < 128 → length_place s at end + 1 + byte_at s (length_place s at end) ≤ end
-    → P (Head.Open (byte_at s at) (length_place s at end + 1) (length_place s at end + 1 + byte_at s (length_place s at end))))
+    → P (Ok (element (byte_at s at) (length_place s at end + 1) (length_place s at end + 1 + byte_at s (length_place s at end)))))
     → ((o : at < end) (h : length_place s at end < end) → 128 ≤ byte_at s (length_place s at end) → (byte_at s (length_place s at end) ≡ 128 → ⊥) → (byte_at s (length_place s at end) ≡ 255 → ⊥)
     → length_place s at end + 1 + (byte_at s (length_place s at end) - 128) + big_at s (length_place s at end + 1) (byte_at s (length_place s at end) - 128) ≤ end
-    → P (Head.Open (byte_at s at) (length_place s at end + 1 + (byte_at s (length_place s at end) - 128)) (length_place s at end + 1 + (byte_at s (length_place s at end) - 128) + big_at s (length_place s at end + 1) (byte_at s (length_place s at end) - 128))))
+    → P (Ok (element (byte_at s at) (length_place s at end + 1 + (byte_at s (length_place s at end) - 128)) (length_place s at end + 1 + (byte_at s (length_place s at end) - 128) + big_at s (length_place s at end + 1) (byte_at s (length_place s at end) - 128)))))
     → P (head_of s at end short)
 unfolding head_of head_from length_of
 head_all P s at end short a b near far =

@@ -10,18 +10,19 @@ use Rattle.text.proofs.Cases.{no_lt, yes_eq, no_eq}
 use Rattle.wire.specs.Bytes.{byte_at}
 use Rattle.wire.specs.Values.{paired_of, pair_on, pairs_at, counted_of, natured_of, digited_of, party_by, party_of, there_of}
 use Rattle.wire.specs.Texts.{pair_byte, octets_of, padded_of, number_text}
-use Rattle.wire.specs.declared.Digits.{Digits}
 use Rattle.wire.specs.declared.Number.{Number}
 use Rattle.wire.proofs.Pieces.{octets_length}
 use Rattle.wire.proofs.Back.{Holds, holds_left, holds_right, holds_first, holds_second, holds_after}
+use Rattle.wire.specs.Answers.{Digits}
+use Rattle.std.specs.Prelude.{Some}
 
-pair_back : (v : ℕ) → Digits.Value v ≡ paired_of (v / 100) (pair_byte (v % 100))
+pair_back : (v : ℕ) → Some v ≡ paired_of (v / 100) (pair_byte (v % 100))
 unfolding paired_of
 pair_back v =
     let e : v / 100 * 100 + (pair_byte (v % 100) % 16 * 10 + pair_byte (v % 100) / 16) ≡ v = omega arith in
     no_lt _ _ _ _ _ (omega arith) (no_lt _ _ _ _ _ (omega arith) (rw e))
 
-pub pairs_back : (s : List ℕ) (i m v : ℕ) → v < 100 ^ m → Holds s (i + 2) (octets_of m v) → Digits.Value v ≡ pairs_at s i m
+pub pairs_back : (s : List ℕ) (i m v : ℕ) → v < 100 ^ m → Holds s (i + 2) (octets_of m v) → Some v ≡ pairs_at s i m
 unfolding pairs_at octets_of pair_on
 pairs_back s i zero v h f = let e : v ≡ 0 = omega arith in rw e
 pairs_back s i (suc m) v h f =

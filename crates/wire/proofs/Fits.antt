@@ -14,16 +14,16 @@ use Rattle.wire.specs.Grammar.{any, code_of, item_at, number_if, made_of, bare_o
 use Rattle.wire.specs.Grammar.{kind_of, whole_of, component_of}
 use Rattle.wire.specs.Parameters.{Parameter, refused, holds, before, onward, walk_by, walk_of}
 use Rattle.wire.specs.Writable.{argument_ok, result_ok, writable_of}
-use Rattle.wire.specs.declared.Answer.{Answer}
 use Rattle.wire.specs.declared.Component.{Component}
 use Rattle.wire.specs.declared.Cursor.{Cursor}
-use Rattle.wire.specs.declared.Head.{Head}
 use Rattle.wire.specs.declared.Number.{Number}
 use Rattle.wire.specs.declared.Said.{Said}
 use Rattle.wire.proofs.Digited.{Fine}
 use Rattle.wire.proofs.Goods.{Kinds, Sized, good_written}
 use Rattle.wire.proofs.Bounds.{need_took, checked_live, closed_live, inside_live}
 use Rattle.wire.proofs.Spent.{Bytes, Agrees, invoke_enough, result_enough, number_is}
+use Rattle.wire.specs.Answers.{Answer, Head}
+use Rattle.std.specs.Prelude.{Ok, Err}
 
 -- kind, operation or error, and parts
 pub data Shaped (k n p : ℕ) : Type 0 where
@@ -48,8 +48,8 @@ pub record Ranged (c : Component) : Type 0 where
   pub duration_most : c.duration ≤ 921599
 
 abbrev Ours : List ℕ → Answer → Type 0
-Ours s (Answer.Refused n place) = Unit {0}
-Ours s (Answer.Read m next) = Fits m × (Bytes s → Ranged m)
+Ours s (Err stop) = Unit {0}
+Ours s (Ok (m, next)) = Fits m × (Bytes s → Ranged m)
 
 answer_ours : (s : List ℕ) (c : Cursor) (m : Component) → (c.number ≡ 0 → Fits m × (Bytes s → Ranged m)) → Ours s (answer_of c m)
 unfolding answer_of
@@ -181,19 +181,19 @@ take_bytes (suc n) (x ∷ xs) b zero = b zero
 take_bytes (suc n) (x ∷ xs) b (suc i) = take_bytes n xs (λ j. b (suc j)) i
 
 own_ours : (n : ℕ) (s : List ℕ) (a : Answer) → Ours (take n s) a → Ours s a
-own_ours n s (Answer.Refused m place) h = tt
-own_ours n s (Answer.Read m next) (f, g) = (f, λ b. g (take_bytes n s b))
+own_ours n s (Err stop) h = tt
+own_ours n s (Ok (m, next)) (f, g) = (f, λ b. g (take_bytes n s b))
 
 whole_ours : (s : List ℕ) (at : ℕ) (h : Head) → Ours s (whole_of s at h)
 unfolding whole_of
-whole_ours s at (Head.Bad n) = tt
-whole_ours s at (Head.Open tag body next) = own_ours next s (kind_of (take next s) at tag body) (kind_ours (take next s) at tag body)
+whole_ours s at (Err n) = tt
+whole_ours s at (Ok el) = own_ours el.next s (kind_of (take el.next s) at el.tag el.body) (kind_ours (take el.next s) at el.tag el.body)
 
-component_ours : (s : List ℕ) (at next : ℕ) (c : Component) → component_of s at ≡ Answer.Read c next → Fits c × (Bytes s → Ranged c)
+component_ours : (s : List ℕ) (at next : ℕ) (c : Component) → component_of s at ≡ Ok (c, next) → Fits c × (Bytes s → Ranged c)
 unfolding component_of
 component_ours s at next c e = subst (Ours s) e (whole_ours s at (head_of s at (length s) 11))
 
-pub read_fits : (s : List ℕ) (at next : ℕ) (c : Component) → component_of s at ≡ Answer.Read c next → Fits c
+pub read_fits : (s : List ℕ) (at next : ℕ) (c : Component) → component_of s at ≡ Ok (c, next) → Fits c
 read_fits s at next c e = (component_ours s at next c e).0
 
 -- ---- what fits can be written
@@ -230,7 +230,7 @@ fits_writable c f r =
     (kinds_of _ _ _ _ f.shaped r.id_byte r.id_most)
 
 -- Only the identifier and the Duration need the bytes to be bytes.
-pub read_writable : (s : List ℕ) (at next : ℕ) (c : Component) → ((i : ℕ) → byte_at s i < 256) → component_of s at ≡ Answer.Read c next
+pub read_writable : (s : List ℕ) (at next : ℕ) (c : Component) → ((i : ℕ) → byte_at s i < 256) → component_of s at ≡ Ok (c, next)
     → Sized c × (writable_of c ≡ 1)
 read_writable s at next c b e = let w = component_ours s at next c e in (fits_sized c w.0, fits_writable c w.0 (w.1 b))
 
@@ -252,8 +252,8 @@ before_fits c (holds cs) f h = (f, h)
 onward_fits : (s : List ℕ) (place : ℕ) (a : Answer) (rest : ℕ → Parameter) → component_of s place ≡ a
     → ((next : ℕ) → FitsHeld (rest next)) → FitsHeld (onward a rest)
 unfolding onward
-onward_fits s place (Answer.Refused n met) rest e f = tt
-onward_fits s place (Answer.Read c next) rest e f = before_fits c (rest next) (read_fits s place next c e) (f next)
+onward_fits s place (Err stop) rest e f = tt
+onward_fits s place (Ok (c, next)) rest e f = before_fits c (rest next) (read_fits s place next c e) (f next)
 
 walk_by_fits : (k : ℕ) (s : List ℕ) (place : ℕ) → FitsHeld (walk_by k s place)
 unfolding walk_by

@@ -9,7 +9,8 @@ use lib.ListN.{length, get_or-eq_default}
 use Rattle.text.proofs.Cases.{yes_lt, no_lt, yes_le, no_le, yes_eq, no_eq, both_lt, both_eq}
 use Rattle.wire.specs.Bytes.{byte_at, big_at, capped}
 use Rattle.wire.specs.Heads.{tag_by, tag_after, length_place, filled_of, length_of, head_from, head_of}
-use Rattle.wire.specs.declared.Head.{Head}
+use Rattle.wire.specs.Answers.{Head}
+use Rattle.std.specs.Prelude.{Err}
 
 pub past_end : (s : List ℕ) (i : ℕ) → length s ≤ i → 0 ≡ byte_at s i
 past_end s i h = sym (get_or-eq_default s 0 h)
@@ -125,12 +126,12 @@ length_long s tag first after end short n r a w i j k l o e p =
     no_lt _ _ _ _ _ i (no_eq _ _ _ _ _ j (no_eq _ _ _ _ _ k (no_lt _ _ _ _ _ (omega arith)
     (p ∙ rw (e, filled_capped tag (after + (first - 128)) end (big_at s after (first - 128)) short (omega arith) (omega arith))))))
 
-pub head_none : (s : List ℕ) (at end short : ℕ) → end ≤ at → Head.Bad short ≡ head_of s at end short
+pub head_none : (s : List ℕ) (at end short : ℕ) → end ≤ at → Err short ≡ head_of s at end short
 unfolding head_of
 head_none s at end short h = yes_le _ _ _ _ _ h refl
 
 module _ (s : List ℕ) (tag place end short : ℕ) where
-  pub from_none : end ≤ place → Head.Bad short ≡ head_from s tag place end short
+  pub from_none : end ≤ place → Err short ≡ head_from s tag place end short
   unfolding head_from
   from_none g = yes_le _ _ _ _ _ g refl
 

@@ -10,25 +10,27 @@ use Rattle.text.proofs.Cases.{yes_le, no_le, yes_eq, no_eq, both_lt, both_le, bo
 use Rattle.wire.proofs.Lengths.{place_past}
 use Rattle.wire.specs.Heads.{filled_of, length_of, head_from, head_of}
 use Rattle.wire.specs.Elements.{own_of, enter, follow, element_by, sequence_by, element_of, sequence_of}
-use Rattle.wire.specs.declared.Head.{Head}
-use Rattle.wire.specs.declared.Seen.{Seen}
+use Rattle.wire.specs.declared.Element.{Element}
+use Rattle.wire.specs.declared.Refusal.{Refusal}
+use Rattle.wire.specs.Answers.{Head, Seen, element, refusal}
+use Rattle.std.specs.Prelude.{Ok, Err}
 
 -- ---- where what was read ends
 
 -- contents begin after two bytes at least, and end before `end`
 abbrev pub HeadWithin : ℕ → ℕ → Head → Type 0
-HeadWithin at end (Head.Bad n) = Unit {0}
-HeadWithin at end (Head.Open tag body next) = (at + 2 ≤ body) × (body ≤ next) × (next ≤ end)
+HeadWithin at end (Err n) = Unit {0}
+HeadWithin at end (Ok el) = (at + 2 ≤ el.body) × (el.body ≤ el.next) × (el.next ≤ end)
 
 -- an element has two bytes at least
 abbrev pub Within : ℕ → ℕ → Seen → Type 0
-Within at end (Seen.Stop n place) = Unit {0}
-Within at end (Seen.Read next) = (at + 2 ≤ next) × (next ≤ end)
+Within at end (Err stop) = Unit {0}
+Within at end (Ok next) = (at + 2 ≤ next) × (next ≤ end)
 
 -- elements fill all that is up to `end`
 abbrev pub Ends : ℕ → Seen → Type 0
-Ends end (Seen.Stop n place) = Unit {0}
-Ends end (Seen.Read next) = next ≡ end
+Ends end (Err stop) = Unit {0}
+Ends end (Ok next) = next ≡ end
 
 filled_within : (tag at body end len short : ℕ) → at + 2 ≤ body → HeadWithin at end (filled_of tag body end len short)
 unfolding filled_of
@@ -48,20 +50,20 @@ head_within s at end short =
 enter_within : (h : Head) (at end depth known : ℕ) (held : ℕ → ℕ → ℕ → ℕ → Seen) → HeadWithin at end h
     → ((body next d n : ℕ) → body ≤ next → Ends next (held body next d n)) → Within at end (enter h at depth known held)
 unfolding enter
-enter_within (Head.Bad n) at end depth known held h f = tt
-enter_within (Head.Open tag body next) at end depth known held (h, g, i) f =
+enter_within (Err n) at end depth known held h f = tt
+enter_within (Ok el) at end depth known held (h, g, i) f =
     both_eq _ _ (Within at end) _ _ (λ _. tt) λ _.
     both_eq _ _ (Within at end) _ _ (λ _. tt) λ _.
-    both_eq _ _ (Within at end) _ _ (λ _. ends-within (held body next (depth - 1) 0) (f body next (depth - 1) 0 g)) (λ _. (omega arith, i))
+    both_eq _ _ (Within at end) _ _ (λ _. ends-within (held el.body el.next (depth - 1) 0) (f el.body el.next (depth - 1) 0 g)) (λ _. (omega arith, i))
   where
-    ends-within : (x : Seen) → Ends next x → Within at end x
-    ends-within (Seen.Stop n place) e = tt
-    ends-within (Seen.Read j) e = (omega arith, omega arith)
+    ends-within : (x : Seen) → Ends el.next x → Within at end x
+    ends-within (Err stop) e = tt
+    ends-within (Ok j) e = (omega arith, omega arith)
 
 follow_ends : (x : Seen) (at end : ℕ) (rest : ℕ → Seen) → Within at end x → ((next : ℕ) → next ≤ end → Ends end (rest next)) → Ends end (follow x rest)
 unfolding follow
-follow_ends (Seen.Stop n place) at end rest h f = tt
-follow_ends (Seen.Read next) at end rest (h, g) f = f next g
+follow_ends (Err stop) at end rest h f = tt
+follow_ends (Ok next) at end rest (h, g) f = f next g
 
 mutual
   unfolding element_by
@@ -90,13 +92,13 @@ sequence_ends s at end depth known h = sequence_by_ends _ s at end depth known h
 enter_same : (h : Head) (at end depth known : ℕ) (f g : ℕ → ℕ → ℕ → ℕ → Seen) → HeadWithin at end h
     → ((body next d n : ℕ) → at + 2 ≤ body → body ≤ next → next ≤ end → f body next d n ≡ g body next d n) → enter h at depth known f ≡ enter h at depth known g
 unfolding enter
-enter_same (Head.Bad n) at end depth known f g h e = refl
-enter_same (Head.Open tag body next) at end depth known f g (h, i, j) e = rw (e body next (depth - 1) 0 h i j)
+enter_same (Err n) at end depth known f g h e = refl
+enter_same (Ok el) at end depth known f g (h, i, j) e = rw (e el.body el.next (depth - 1) 0 h i j)
 
 follow_same : (x : Seen) (at end : ℕ) (f g : ℕ → Seen) → Within at end x → ((next : ℕ) → at + 2 ≤ next → next ≤ end → f next ≡ g next) → follow x f ≡ follow x g
 unfolding follow
-follow_same (Seen.Stop n place) at end f g h e = refl
-follow_same (Seen.Read next) at end f g (h, i) e = e next h i
+follow_same (Err stop) at end f g h e = refl
+follow_same (Ok next) at end f g (h, i) e = e next h i
 
 le_same : (a b : ℕ) (x y z : Seen) → (b < a → y ≡ z) → if_le a b x y ≡ if_le a b x z
 le_same a b x y z e =
@@ -129,7 +131,7 @@ element_is s at end depth known =
     enter_same (head_of s at end 12) at end depth known _ _ (head_within s at end 12)
     (λ body next d n p q r. sequence_same (2 * (end - at)) (suc (suc (2 * (next - body)))) s body next d n (omega arith) (omega arith))
 
-pub sequence_is : (s : List ℕ) (at end depth known : ℕ) → sequence_of s at end depth known ≡ if_le end at (Seen.Read at) (follow (element_of s at end depth known) (λ next. sequence_of s next end depth known))
+pub sequence_is : (s : List ℕ) (at end depth known : ℕ) → sequence_of s at end depth known ≡ if_le end at (Ok at) (follow (element_of s at end depth known) (λ next. sequence_of s next end depth known))
 unfolding element_of sequence_of element_by
 sequence_is s at end depth known =
     le_same end at _ _ _
@@ -142,37 +144,37 @@ module _ (s : List ℕ) (at end depth known : ℕ) (h : Head) (g : h ≡ head_of
   element_by_lem : (x : Head) (r : Seen) → h ≡ x → r ≡ enter x at depth known (sequence_of s) → r ≡ element_of s at end depth known
   element_by_lem x r e f = f ∙ ap (λ (y : Head). enter y at depth known (sequence_of s)) (sym e ∙ g) ∙ sym (element_is s at end depth known)
 
-  pub element_bad : (n : ℕ) → h ≡ Head.Bad n → Seen.Stop n at ≡ element_of s at end depth known
+  pub element_bad : (n : ℕ) → h ≡ Err n → Err (refusal n at) ≡ element_of s at end depth known
   unfolding enter
-  element_bad n e = element_by_lem (Head.Bad n) _ e refl
+  element_bad n e = element_by_lem (Err n) _ e refl
 
-  module _ (tag body next : ℕ) (e : h ≡ Head.Open tag body next) where
-    open_within : HeadWithin at end (Head.Open tag body next)
+  module _ (el : Element) (e : h ≡ Ok el) where
+    open_within : HeadWithin at end (Ok el)
     open_within = rw (sym g ∙ e) at (head_within s at end 12)
 
-    pub element_deep : depth ≡ 0 → Seen.Stop 13 at ≡ element_of s at end depth known
+    pub element_deep : depth ≡ 0 → Err (refusal 13 at) ≡ element_of s at end depth known
     unfolding enter
-    element_deep f = element_by_lem (Head.Open tag body next) _ e (yes_eq _ _ _ _ _ f refl)
+    element_deep f = element_by_lem (Ok el) _ e (yes_eq _ _ _ _ _ f refl)
 
-    module _ (f : depth ≡ 0 → ⊥) (o : ℕ) (m : o ≡ own_of tag known) where
-      pub element_own : o ≡ 1 → Seen.Stop 14 at ≡ element_of s at end depth known
+    module _ (f : depth ≡ 0 → ⊥) (o : ℕ) (m : o ≡ own_of el.tag known) where
+      pub element_own : o ≡ 1 → Err (refusal 14 at) ≡ element_of s at end depth known
       unfolding enter
-      element_own l = element_by_lem (Head.Open tag body next) _ e (no_eq _ _ _ _ _ f (yes_eq _ _ _ _ _ (sym m ∙ l) refl))
+      element_own l = element_by_lem (Ok el) _ e (no_eq _ _ _ _ _ f (yes_eq _ _ _ _ _ (sym m ∙ l) refl))
 
-      pub element_held : (r : Seen) → (o ≡ 1 → ⊥) → tag / 32 % 2 ≡ 1 → r ≡ sequence_of s body next (depth - 1) 0 → r ≡ element_of s at end depth known
+      pub element_held : (r : Seen) → (o ≡ 1 → ⊥) → el.tag / 32 % 2 ≡ 1 → r ≡ sequence_of s el.body el.next (depth - 1) 0 → r ≡ element_of s at end depth known
       unfolding enter
-      element_held r l i j = element_by_lem (Head.Open tag body next) r e (no_eq _ _ _ _ _ f (no_eq _ _ _ _ _ (λ k. l (m ∙ k)) (yes_eq _ _ _ _ _ i j)))
+      element_held r l i j = element_by_lem (Ok el) r e (no_eq _ _ _ _ _ f (no_eq _ _ _ _ _ (λ k. l (m ∙ k)) (yes_eq _ _ _ _ _ i j)))
 
-      pub element_plain : (o ≡ 1 → ⊥) → (tag / 32 % 2 ≡ 1 → ⊥) → Seen.Read next ≡ element_of s at end depth known
+      pub element_plain : (o ≡ 1 → ⊥) → (el.tag / 32 % 2 ≡ 1 → ⊥) → Ok el.next ≡ element_of s at end depth known
       unfolding enter
-      element_plain l i = element_by_lem (Head.Open tag body next) _ e (no_eq _ _ _ _ _ f (no_eq _ _ _ _ _ (λ k. l (m ∙ k)) (no_eq _ _ _ _ _ i refl)))
+      element_plain l i = element_by_lem (Ok el) _ e (no_eq _ _ _ _ _ f (no_eq _ _ _ _ _ (λ k. l (m ∙ k)) (no_eq _ _ _ _ _ i refl)))
 
     -- what an element holds is shorter than the element
-    pub held_falls : (t : ℕ) → 2 * (end - at) ≡ t → 2 * (next - body) + 1 < t
+    pub held_falls : (t : ℕ) → 2 * (end - at) ≡ t → 2 * (el.next - el.body) + 1 < t
     held_falls t f = let w = open_within in omega arith
 
 module _ (s : List ℕ) (at end depth known : ℕ) where
-  pub sequence_none : end ≤ at → Seen.Read at ≡ sequence_of s at end depth known
+  pub sequence_none : end ≤ at → Ok at ≡ sequence_of s at end depth known
   sequence_none h = yes_le _ _ _ _ _ h refl ∙ sym (sequence_is s at end depth known)
 
   module _ (x : Seen) (h : at < end) (g : x ≡ element_of s at end depth known) where
@@ -180,17 +182,17 @@ module _ (s : List ℕ) (at end depth known : ℕ) where
     sequence-by y r e f =
         no_le _ _ _ _ _ h (f ∙ ap (λ (z : Seen). follow z (λ next. sequence_of s next end depth known)) (sym e ∙ g)) ∙ sym (sequence_is s at end depth known)
 
-    pub sequence_stop : (n place : ℕ) → x ≡ Seen.Stop n place → Seen.Stop n place ≡ sequence_of s at end depth known
+    pub sequence_stop : (r : Refusal) → x ≡ Err r → Err r ≡ sequence_of s at end depth known
     unfolding follow
-    sequence_stop n place e = sequence-by (Seen.Stop n place) _ e refl
+    sequence_stop r e = sequence-by (Err r) _ e refl
 
-    module _ (next : ℕ) (e : x ≡ Seen.Read next) where
-      read_within : Within at end (Seen.Read next)
+    module _ (next : ℕ) (e : x ≡ Ok next) where
+      read_within : Within at end (Ok next)
       read_within = rw (sym g ∙ e) at (element_within s at end depth known)
 
       pub sequence_more : (r : Seen) → r ≡ sequence_of s next end depth known → r ≡ sequence_of s at end depth known
       unfolding follow
-      sequence_more r f = sequence-by (Seen.Read next) r e f
+      sequence_more r f = sequence-by (Ok next) r e f
 
 -- ---- the elements one after the other, by a loop: from `place` on the same is read as from `at` on
 
@@ -202,14 +204,14 @@ pub going_start : (s : List ℕ) (at end depth known : ℕ) → Going s at end d
 going_start s at end depth known = record { on = omega arith; same = refl }
 
 module _ (s : List ℕ) (at end depth known place : ℕ) (g : Going s at end depth known place) where
-  pub going_done : end ≤ place → Seen.Read place ≡ sequence_of s at end depth known
+  pub going_done : end ≤ place → Ok place ≡ sequence_of s at end depth known
   going_done h = sequence_none s place end depth known h ∙ g.same
 
   module _ (x : Seen) (h : place < end) (e : x ≡ element_of s place end depth known) where
-    pub going_stop : (n met : ℕ) → x ≡ Seen.Stop n met → Seen.Stop n met ≡ sequence_of s at end depth known
-    going_stop n met f = sequence_stop s place end depth known x h e n met f ∙ g.same
+    pub going_stop : (r : Refusal) → x ≡ Err r → Err r ≡ sequence_of s at end depth known
+    going_stop r f = sequence_stop s place end depth known x h e r f ∙ g.same
 
-    module _ (next : ℕ) (f : x ≡ Seen.Read next) where
+    module _ (next : ℕ) (f : x ≡ Ok next) where
       pub going_on : Going s at end depth known next
       going_on =
           let w = read_within s place end depth known x h e next f in

@@ -13,15 +13,13 @@ use Rattle.wire.specs.Cursors.{checked_of, seen_of, rest_of}
 use Rattle.wire.specs.Grammar.{code_of, partial_of, duration_of, last_of, parts_of, answer_of, invoke_of, result_of, error_of, named_of}
 use Rattle.wire.specs.Grammar.{reject_of, kind_of, whole_of, component_of}
 use Rattle.wire.specs.Parameters.{Parameter, refused, holds, before, onward, walk_of, framed_of, held_in, parameter_of}
-use Rattle.wire.specs.declared.Answer.{Answer}
 use Rattle.wire.specs.declared.Component.{Component}
 use Rattle.wire.specs.declared.Cursor.{Cursor}
-use Rattle.wire.specs.declared.Frame.{Frame}
-use Rattle.wire.specs.declared.Head.{Head}
 use Rattle.wire.specs.declared.Last.{Last}
-use Rattle.wire.specs.declared.Seen.{Seen}
 use Rattle.wire.proofs.Bounds.{Told, seq_told}
 use Rattle.wire.proofs.Walks.{Twelve, head_twelve, read_on, walk_end, walk_on}
+use Rattle.wire.specs.Answers.{Answer, Frame, Head, Seen}
+use Rattle.std.specs.Prelude.{Ok, Err}
 
 -- ---- cursors: 12, 13 or 14, where it is stopped
 
@@ -45,21 +43,21 @@ opened_tells inner next = λ h. absurd (h refl)
 
 look_tells : (h : Head) (place tag least most : ℕ) → Twelve h → Tells (look_of h place tag least most)
 unfolding look_of sized_of
-look_tells (Head.Bad n) place tag least most t = stopped_tells n place (omega arith) (omega arith)
-look_tells (Head.Open u inner next) place tag least most t =
+look_tells (Err n) place tag least most t = stopped_tells n place (omega arith) (omega arith)
+look_tells (Ok el) place tag least most t =
     both_eq _ _ Tells _ _
-    (λ _. both_lt _ _ Tells _ _ (λ _. other place) (λ _. both_lt _ _ Tells _ _ (λ _. other place) (λ _. opened_tells inner next)))
+    (λ _. both_lt _ _ Tells _ _ (λ _. other place) (λ _. both_lt _ _ Tells _ _ (λ _. other place) (λ _. opened_tells el.body el.next)))
     (λ _. other place)
 
 extra_tells : (h : Head) (place : ℕ) → Twelve h → Tells (extra_of h place)
 unfolding extra_of
-extra_tells (Head.Bad n) place t = stopped_tells n place (omega arith) (omega arith)
-extra_tells (Head.Open u inner next) place t = other place
+extra_tells (Err n) place t = stopped_tells n place (omega arith) (omega arith)
+extra_tells (Ok el) place t = other place
 
 seen_tells : (x : Seen) → Told x → Tells (seen_of x)
 unfolding seen_of
-seen_tells (Seen.Stop n place) (h, g) = stopped_tells n place h g
-seen_tells (Seen.Read next) t = absent_tells next
+seen_tells (Err stop) (h, g) = stopped_tells stop.number stop.place h g
+seen_tells (Ok next) t = absent_tells next
 
 module _ (s : List ℕ) (c : Cursor) (end : ℕ) (i : Tells c) where
   need_tells : (tag least most : ℕ) → Tells (need_of s c end tag least most)
@@ -131,8 +129,8 @@ parts_tells s c end k x i =
     rest_tells s _ end (last_tells s _ end k x (checked_tells _ _ _ (may_tells s (may_of s c end 128 1 1) end f 129 3 10))) _ _
 
 abbrev pub Numbered : Answer → Type 0
-Numbered (Answer.Refused n place) = (11 ≤ n) × (n ≤ 14)
-Numbered (Answer.Read c next) = Unit {0}
+Numbered (Err stop) = (11 ≤ stop.number) × (stop.number ≤ 14)
+Numbered (Ok (c, next)) = Unit {0}
 
 answer_numbered : (c : Cursor) (m : Component) → Tells c → Numbered (answer_of c m)
 unfolding answer_of
@@ -181,8 +179,8 @@ kind_numbered s place tag at =
 
 -- a component's own head: 11, or 12 for its length
 abbrev Cut : Head → Type 0
-Cut (Head.Bad n) = (11 ≤ n) × (n ≤ 14)
-Cut (Head.Open tag body next) = Unit {0}
+Cut (Err n) = (11 ≤ n) × (n ≤ 14)
+Cut (Ok el) = Unit {0}
 
 filled_cut : (tag body end len : ℕ) → Cut (filled_of tag body end len 11)
 unfolding filled_of
@@ -200,8 +198,8 @@ head_cut s at end =
 
 whole_numbered : (s : List ℕ) (at : ℕ) (h : Head) → Cut h → Numbered (whole_of s at h)
 unfolding whole_of
-whole_numbered s at (Head.Bad n) w = w
-whole_numbered s at (Head.Open tag body next) w = kind_numbered (take next s) at tag body
+whole_numbered s at (Err n) w = w
+whole_numbered s at (Ok el) w = kind_numbered (take el.next s) at el.tag el.body
 
 pub component_numbered : (s : List ℕ) (at : ℕ) → Numbered (component_of s at)
 unfolding component_of
@@ -218,11 +216,11 @@ unfolding before
 before_numbered c (refused n place) h = h
 before_numbered c (holds cs) h = tt
 
-onward_numbered : (a : Answer) (rest : ℕ → Parameter) → Numbered a → ((c : Component) (next : ℕ) → a ≡ Answer.Read c next → NumberedWhole (rest next))
+onward_numbered : (a : Answer) (rest : ℕ → Parameter) → Numbered a → ((c : Component) (next : ℕ) → a ≡ Ok (c, next) → NumberedWhole (rest next))
     → NumberedWhole (onward a rest)
 unfolding onward
-onward_numbered (Answer.Refused n place) rest h f = h
-onward_numbered (Answer.Read c next) rest h f = before_numbered c (rest next) (f c next refl)
+onward_numbered (Err stop) rest h f = h
+onward_numbered (Ok (c, next)) rest h f = before_numbered c (rest next) (f c next refl)
 
 walk_numbered : (k : ℕ) (s : List ℕ) (place : ℕ) → length s - place < k → NumberedWhole (walk_of s place)
 walk_numbered zero s place h = absurd (omega arith)
@@ -234,8 +232,8 @@ walk_numbered (suc k) s place h =
     (λ c next e. let o = read_on s place next c (component_of s place) refl e in walk_numbered k s next (omega arith))))
 
 abbrev NumberedFrame : Frame → Type 0
-NumberedFrame (Frame.Bad n place) = (11 ≤ n) × (n ≤ 14)
-NumberedFrame Frame.Good = Unit {0}
+NumberedFrame (Err stop) = (11 ≤ stop.number) × (stop.number ≤ 14)
+NumberedFrame (Ok u) = Unit {0}
 
 frame_numbered : (s : List ℕ) → NumberedFrame (framed_of s)
 unfolding framed_of
@@ -248,8 +246,8 @@ frame_numbered s =
 
 held_numbered : (f : Frame) (p : Parameter) → NumberedFrame f → NumberedWhole p → NumberedWhole (held_in f p)
 unfolding held_in
-held_numbered (Frame.Bad n place) p h g = h
-held_numbered Frame.Good p h g = g
+held_numbered (Err stop) p h g = h
+held_numbered (Ok u) p h g = g
 
 pub parameter_numbered : (s : List ℕ) → NumberedWhole (parameter_of s)
 unfolding parameter_of

@@ -17,40 +17,39 @@ use Rattle.wire.specs.Parameters.{Parameter, refused, holds, before, onward, wal
 use Rattle.wire.specs.Texts.{element_text, text_if, flag_text, party_text, duration_text, first_text, parties_text, last_text}
 use Rattle.wire.specs.Texts.{parts_text, seq_text, id_text, rejected_text, code_text, invoke_text, held_text, result_text, error_text}
 use Rattle.wire.specs.Texts.{reject_text, component_text, parameter_text}
-use Rattle.wire.specs.declared.Answer.{Answer}
 use Rattle.wire.specs.declared.Component.{Component}
 use Rattle.wire.specs.declared.Cursor.{Cursor}
-use Rattle.wire.specs.declared.Head.{Head}
 use Rattle.wire.specs.declared.Last.{Last}
 use Rattle.wire.specs.declared.Number.{Number}
-use Rattle.wire.specs.declared.Seen.{Seen}
 use Rattle.wire.proofs.Levels.{HeadWithin, head_within}
 use Rattle.wire.proofs.Pieces.{number_length}
+use Rattle.wire.specs.Answers.{Answer, Head, Seen}
+use Rattle.std.specs.Prelude.{Ok, Err}
 
 -- ---- elements
 
 abbrev Bounded : ℕ → Seen → Type 0
-Bounded e (Seen.Stop n place) = place ≤ e
-Bounded e (Seen.Read next) = next ≤ e
+Bounded e (Err stop) = stop.place ≤ e
+Bounded e (Ok next) = next ≤ e
 
 widen : (x : Seen) (e f : ℕ) → e ≤ f → Bounded e x → Bounded f x
-widen (Seen.Stop n place) e f h b = omega arith
-widen (Seen.Read next) e f h b = omega arith
+widen (Err stop) e f h b = omega arith
+widen (Ok next) e f h b = omega arith
 
 enter_bounded : (h : Head) (at end depth known : ℕ) (held : ℕ → ℕ → ℕ → ℕ → Seen) → at ≤ end → HeadWithin at end h
     → ((body next d n : ℕ) → body ≤ next → Bounded next (held body next d n)) → Bounded end (enter h at depth known held)
 unfolding enter
-enter_bounded (Head.Bad n) at end depth known held l h f = l
-enter_bounded (Head.Open tag body next) at end depth known held l (h, g, i) f =
+enter_bounded (Err n) at end depth known held l h f = l
+enter_bounded (Ok el) at end depth known held l (h, g, i) f =
     both_eq _ _ (Bounded end) _ _ (λ _. l) λ _.
     both_eq _ _ (Bounded end) _ _ (λ _. l) λ _.
-    both_eq _ _ (Bounded end) _ _ (λ _. widen (held body next (depth - 1) 0) next end i (f body next (depth - 1) 0 g)) (λ _. i)
+    both_eq _ _ (Bounded end) _ _ (λ _. widen (held el.body el.next (depth - 1) 0) el.next end i (f el.body el.next (depth - 1) 0 g)) (λ _. i)
 
 follow_bounded : (x : Seen) (end : ℕ) (rest : ℕ → Seen) → Bounded end x → ((next : ℕ) → next ≤ end → Bounded end (rest next))
     → Bounded end (follow x rest)
 unfolding follow
-follow_bounded (Seen.Stop n place) end rest h f = h
-follow_bounded (Seen.Read next) end rest h f = f next h
+follow_bounded (Err stop) end rest h f = h
+follow_bounded (Ok next) end rest h f = f next h
 
 mutual
   unfolding element_by
@@ -88,22 +87,22 @@ opened_in e inner next h g = (g, omega arith)
 look_in : (e end : ℕ) (h : Head) (place tag least most : ℕ) → place ≤ e → end ≤ e → HeadWithin place end h
     → In e (look_of h place tag least most)
 unfolding look_of sized_of
-look_in e end (Head.Bad n) place tag least most p q w = stopped_in e n place p
-look_in e end (Head.Open t inner next) place tag least most p q (a, b, c) =
+look_in e end (Err n) place tag least most p q w = stopped_in e n place p
+look_in e end (Ok el) place tag least most p q (a, b, c) =
     both_eq _ _ (In e) _ _
     (λ _. both_lt _ _ (In e) _ _ (λ _. stopped_in e 14 place p)
-    (λ _. both_lt _ _ (In e) _ _ (λ _. stopped_in e 14 place p) (λ _. opened_in e inner next b (omega arith))))
+    (λ _. both_lt _ _ (In e) _ _ (λ _. stopped_in e 14 place p) (λ _. opened_in e el.body el.next b (omega arith))))
     (λ _. stopped_in e 14 place p)
 
 extra_in : (e : ℕ) (h : Head) (place : ℕ) → place ≤ e → In e (extra_of h place)
 unfolding extra_of
-extra_in e (Head.Bad n) place p = stopped_in e n place p
-extra_in e (Head.Open t inner next) place p = stopped_in e 14 place p
+extra_in e (Err n) place p = stopped_in e n place p
+extra_in e (Ok el) place p = stopped_in e 14 place p
 
 seen_in : (e end : ℕ) (x : Seen) → end ≤ e → Bounded end x → In e (seen_of x)
 unfolding seen_of
-seen_in e end (Seen.Stop n place) h b = stopped_in e n place (omega arith)
-seen_in e end (Seen.Read next) h b = absent_in e next (omega arith)
+seen_in e end (Err stop) h b = stopped_in e stop.number stop.place (omega arith)
+seen_in e end (Ok next) h b = absent_in e next (omega arith)
 
 module _ (e : ℕ) (s : List ℕ) (c : Cursor) (end : ℕ) (i : In e c) (q : end ≤ e) where
   need_in : (tag least most : ℕ) → In e (need_of s c end tag least most)
@@ -177,8 +176,8 @@ parts_in e s c end k x i q =
 
 -- where an answer leads: the place of a refusal, or the place after the component
 abbrev pub Placed : ℕ → Answer → Type 0
-Placed e (Answer.Refused n place) = place ≤ e
-Placed e (Answer.Read c next) = next ≤ e
+Placed e (Err stop) = stop.place ≤ e
+Placed e (Ok (c, next)) = next ≤ e
 
 answer_placed : (e : ℕ) (c : Cursor) (m : Component) → In e c → Placed e (answer_of c m)
 unfolding answer_of
@@ -228,16 +227,16 @@ kind_placed s place tag at h p =
     both_eq _ _ (Placed (length s)) _ _ (λ _. reject_placed (length s) s at (length s) p q) (λ _. h)
 
 wider : (a : Answer) (e f : ℕ) → e ≤ f → Placed e a → Placed f a
-wider (Answer.Refused n place) e f h p = omega arith
-wider (Answer.Read c next) e f h p = omega arith
+wider (Err stop) e f h p = omega arith
+wider (Ok (c, next)) e f h p = omega arith
 
 whole_placed : (s : List ℕ) (at : ℕ) (h : Head) → at ≤ length s → HeadWithin at (length s) h → Placed (length s) (whole_of s at h)
 unfolding whole_of
-whole_placed s at (Head.Bad n) l w = l
-whole_placed s at (Head.Open tag body next) l (f, g, i) =
-    let e = length-take-le next s i in
-    wider (kind_of (take next s) at tag body) (length (take next s)) (length s) (omega arith)
-    (kind_placed (take next s) at tag body (omega arith) (omega arith))
+whole_placed s at (Err n) l w = l
+whole_placed s at (Ok el) l (f, g, i) =
+    let e = length-take-le el.next s i in
+    wider (kind_of (take el.next s) at el.tag el.body) (length (take el.next s)) (length s) (omega arith)
+    (kind_placed (take el.next s) at el.tag el.body (omega arith) (omega arith))
 
 pub component_placed : (s : List ℕ) (at : ℕ) → at ≤ length s → Placed (length s) (component_of s at)
 unfolding component_of
@@ -257,8 +256,8 @@ before_met e c (holds cs) h = tt
 
 onward_met : (e : ℕ) (a : Answer) (rest : ℕ → Parameter) → Placed e a → ((next : ℕ) → next ≤ e → Met e (rest next)) → Met e (onward a rest)
 unfolding onward
-onward_met e (Answer.Refused n place) rest h f = h
-onward_met e (Answer.Read c next) rest h f = before_met e c (rest next) (f next h)
+onward_met e (Err stop) rest h f = h
+onward_met e (Ok (c, next)) rest h f = before_met e c (rest next) (f next h)
 
 walk_by_met : (k : ℕ) (s : List ℕ) (place : ℕ) → place ≤ length s → Met (length s) (walk_by k s place)
 unfolding walk_by

@@ -10,12 +10,13 @@ use Rattle.wire.specs.Heads.{head_of}
 use Rattle.wire.specs.Cursors.{may_of, need_of, checked_of}
 use Rattle.wire.specs.Values.{absent_number, party_of, clock_at, seconds_at}
 use Rattle.wire.specs.Grammar.{flag_part, first_part, party_at, partial_of, duration_of, last_of, invoke_of, result_of, error_of, named_of, name_of, reject_of, kind_of, whole_of, component_of}
-use Rattle.wire.specs.declared.Answer.{Answer}
 use Rattle.wire.specs.declared.Cursor.{Cursor}
-use Rattle.wire.specs.declared.Head.{Head}
 use Rattle.wire.specs.declared.Last.{Last}
 use Rattle.wire.specs.declared.Number.{Number}
 use Rattle.wire.proofs.Levels.{HeadWithin, head_within}
+use Rattle.wire.specs.declared.Element.{Element}
+use Rattle.wire.specs.Answers.{Answer, Head, refusal}
+use Rattle.std.specs.Prelude.{Ok, Err}
 
 -- ---- what a SEQUENCE's own elements say
 
@@ -106,21 +107,21 @@ module _ (s : List ℕ) (place tag at : ℕ) (r : Answer) where
   unfolding kind_of
   kind_reject k l m g f = no_eq _ _ _ _ _ k (no_eq _ _ _ _ _ l (no_eq _ _ _ _ _ m (yes_eq _ _ _ _ _ g f)))
 
-pub kind_other : (s : List ℕ) (place tag at : ℕ) → (tag ≡ 161 → ⊥) → (tag ≡ 162 → ⊥) → (tag ≡ 163 → ⊥) → (tag ≡ 164 → ⊥) → Answer.Refused 14 place ≡ kind_of s place tag at
+pub kind_other : (s : List ℕ) (place tag at : ℕ) → (tag ≡ 161 → ⊥) → (tag ≡ 162 → ⊥) → (tag ≡ 163 → ⊥) → (tag ≡ 164 → ⊥) → Err (refusal 14 place) ≡ kind_of s place tag at
 unfolding kind_of
 kind_other s place tag at k l m n = no_eq _ _ _ _ _ k (no_eq _ _ _ _ _ l (no_eq _ _ _ _ _ m (no_eq _ _ _ _ _ n refl)))
 
 -- ---- the component at a place
 
 module _ (s : List ℕ) (at : ℕ) (h : Head) (e : h ≡ head_of s at (length s) 11) where
-  pub whole_bad : (n : ℕ) → h ≡ Head.Bad n → Answer.Refused n at ≡ component_of s at
+  pub whole_bad : (n : ℕ) → h ≡ Err n → Err (refusal n at) ≡ component_of s at
   unfolding component_of whole_of
   whole_bad n f = ap (whole_of s at) (sym f ∙ e)
 
-  module _ (tag inner next : ℕ) (f : h ≡ Head.Open tag inner next) where
-    pub open_within : next ≤ length s
-    open_within = let w : HeadWithin at (length s) (Head.Open tag inner next) = subst (HeadWithin at (length s)) (sym e ∙ f) (head_within s at (length s) 11) in w.2
+  module _ (el : Element) (f : h ≡ Ok el) where
+    pub open_within : el.next ≤ length s
+    open_within = let w : HeadWithin at (length s) (Ok el) = subst (HeadWithin at (length s)) (sym e ∙ f) (head_within s at (length s) 11) in w.2
 
-    pub whole_open : (r : Answer) → r ≡ kind_of (take next s) at tag inner → r ≡ component_of s at
+    pub whole_open : (r : Answer) → r ≡ kind_of (take el.next s) at el.tag el.body → r ≡ component_of s at
     unfolding component_of whole_of
     whole_open r g = g ∙ ap (whole_of s at) (sym f ∙ e)

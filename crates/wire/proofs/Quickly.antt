@@ -13,17 +13,15 @@ use Rattle.wire.specs.Cursors.{absent_of, opened_of, inside_of, need_of, closed_
 use Rattle.wire.specs.Values.{listed_at, absent_number, party_of, there_of, clock_at, seconds_at}
 use Rattle.wire.specs.Grammar.{any, code_of, flag_part, parts_of, made_of, bare_of, invoke_of, result_of, error_of}
 use Rattle.wire.specs.Quick.{begins_of, short_of, after_of, number_after, number_at, last_after, last_part, last_seconds, last_ok, number_ok, coded_at, carried_of, SaidAs, ReadAs}
-use Rattle.wire.specs.declared.Answer.{Answer}
 use Rattle.wire.specs.declared.Component.{Component}
 use Rattle.wire.specs.declared.Cursor.{Cursor}
-use Rattle.wire.specs.declared.Head.{Head}
 use Rattle.wire.specs.declared.Number.{Number}
-use Rattle.wire.specs.declared.Parted.{Parted}
-use Rattle.wire.specs.declared.Form.{Form}
 use Rattle.wire.specs.declared.Said.{Said}
 use Rattle.wire.proofs.Back.{Holds, head_here, Ready, ready_opened, ready_absent, inside_opened, need_there, may_other, closed_there}
 use Rattle.wire.proofs.Round.{good_opened, answer_read, invoke_by, result_by, error_by}
 use Rattle.wire.proofs.Usual.{Begins, begins, bytes_of}
+use Rattle.wire.specs.Answers.{Answer, Form, Head, Parted, element}
+use Rattle.std.specs.Prelude.{Ok, Some, None}
 
 -- ---- begins, after
 
@@ -117,11 +115,11 @@ module _ (s : List ℕ) (at n : ℕ) (e : n ≡ short_of s at) (h : n < 128) whe
   pub short_near : length s < 2 ^ 64 → at + 2 < 2 ^ 64
   short_near l = let t = (short_as s at n h e).stands.there in omega arith
 
-  pub opening_here : (tag : ℕ) → tag ≡ byte_at s at → Head.Open tag (at + 2) (at + 2 + n) ≡ head_of s at (length s) 11
+  pub opening_here : (tag : ℕ) → tag ≡ byte_at s at → Ok (element tag (at + 2) (at + 2 + n)) ≡ head_of s at (length s) 11
   opening_here tag f =
       let k = short_as s at n h e in
       let t = k.stands.there in
-      ap (λ (z : ℕ). Head.Open z (at + 2) (at + 2 + n)) f
+      ap (λ (z : ℕ). Ok (element z (at + 2) (at + 2 + n))) f
       ∙ head_here s at (length s) 11 (byte_at s at) n [] (bytes_of s at (byte_at s at) n k.stands) k.plain h (omega arith)
 
 -- ---- numbers
@@ -218,13 +216,13 @@ coded_says s i low high =
     both_eq _ _ (λ (z : ℕ). z ≡ 1 → Begins s i 6 7 × (listed_at s (i + 2) low high ≡ 1)) _ _ (λ h e. (begins s i 6 7 h, e)) (λ _ e. absurd (omega arith))
 
 module _ (p : Parted) (k x i : ℕ) where
-  pub carried_other : p ≡ Parted.Other → Form.Other ≡ carried_of p k x i
+  pub carried_other : p ≡ None → None ≡ carried_of p k x i
   unfolding carried_of
   carried_other e = ap (λ (y : Parted). carried_of y k x i) (sym e)
 
-  pub carried_usual : (d : Said) (m : Component) → p ≡ Parted.Usual d → m ≡ made_of k x d i → Form.Usual m ≡ carried_of p k x i
+  pub carried_usual : (d : Said) (m : Component) → p ≡ Some d → m ≡ made_of k x d i → Some m ≡ carried_of p k x i
   unfolding carried_of
-  carried_usual d m e f = ap Form.Usual f ∙ ap (λ (y : Parted). carried_of y k x i) (sym e)
+  carried_usual d m e f = ap Some f ∙ ap (λ (y : Parted). carried_of y k x i) (sym e)
 
 -- ---- what is said of a whole component
 
@@ -254,8 +252,8 @@ module _ (s : List ℕ) (at size b1 c1 : ℕ) (e1 : b1 ≡ begins_of s at 2 1) (
       opens s (absent_of at) at (at + 3) end 2 1 1 1 (ready_absent at) (begins s at 2 1 (sym e1 ∙ o1)) (λ y. omega arith) (omega arith) (omega arith) (omega arith) (omega arith) (omega arith)
 
   invoke_usual : (b2 item a id : ℕ) (d : Said) → 14 ≤ length s → at ≤ length s - 14 → size ≡ length s - 14 - at → size ≤ 127 → c1 ≡ coded_at s (at + 3) 1 3
-      → b2 ≡ begins_of s (at + 12) 48 size → b2 ≡ 1 → item ≡ byte_at s (at + 11) → a ≡ byte_at s (at + 2) → id ≡ a → SaidAs s (parts_of s (absent_of (at + 14)) (length s) 1 item) (Parted.Usual d)
-      → invoke_of s at (length s) ≡ Answer.Read (made_of 1 item d id) (length s)
+      → b2 ≡ begins_of s (at + 12) 48 size → b2 ≡ 1 → item ≡ byte_at s (at + 11) → a ≡ byte_at s (at + 2) → id ≡ a → SaidAs s (parts_of s (absent_of (at + 14)) (length s) 1 item) (Some d)
+      → invoke_of s at (length s) ≡ Ok (made_of 1 item d id, length s)
   unfolding opened_of
   invoke_usual b2 item a id d l g z h ec e2 o2 ei ea ed S =
       let B = begins s (at + 12) 48 size (sym e2 ∙ o2) in
@@ -274,21 +272,21 @@ module _ (s : List ℕ) (at size b1 c1 : ℕ) (e1 : b1 ≡ begins_of s at 2 1) (
       let Z = closed_at s d.cursor (length s) S.1 in
       invoke_by s at (length s) (opened_of (at + 2) (at + 3)) (absent_of (at + 3)) (opened_of (at + 3 + 2) (at + 12)) (opened_of (at + 12 + 2) (length s)) (absent_of (length s)) d I L O Q D Z
       ∙ sym (answer_read (absent_of (length s)) (made_of 1 (byte_at s (at + 3 + 2 + 6)) d (byte_at s (at + 2))) (length s) (ready_absent (length s)))
-      ∙ ap (λ (y : ℕ). Answer.Read (made_of 1 y d (byte_at s (at + 2))) (length s)) ei'
-      ∙ ap (λ (y : ℕ). Answer.Read (made_of 1 item d y) (length s)) (sym (ed ∙ ea))
+      ∙ ap (λ (y : ℕ). Ok (made_of 1 y d (byte_at s (at + 2)), length s)) ei'
+      ∙ ap (λ (y : ℕ). Ok (made_of 1 item d y, length s)) (sym (ed ∙ ea))
 
   pub usual_invoke : (b2 item a id : ℕ) (p : Parted) (r : Form) → 14 ≤ length s → at ≤ length s - 14 → size ≡ length s - 14 - at → size ≤ 127 → c1 ≡ coded_at s (at + 3) 1 3
       → b2 ≡ begins_of s (at + 12) 48 size → b2 ≡ 1 → item ≡ byte_at s (at + 11) → a ≡ byte_at s (at + 2) → id ≡ a → SaidAs s (parts_of s (absent_of (at + 14)) (length s) 1 item) p
       → r ≡ carried_of p 1 item id → ReadAs s (invoke_of s at (length s)) r
   unfolding carried_of
-  usual_invoke b2 item a id Parted.Other r l g z h ec e2 o2 ei ea ed sp er = subst (ReadAs s (invoke_of s at (length s))) (sym er) tt
-  usual_invoke b2 item a id (Parted.Usual d) r l g z h ec e2 o2 ei ea ed sp er =
+  usual_invoke b2 item a id None r l g z h ec e2 o2 ei ea ed sp er = subst (ReadAs s (invoke_of s at (length s))) (sym er) tt
+  usual_invoke b2 item a id (Some d) r l g z h ec e2 o2 ei ea ed sp er =
       subst (ReadAs s (invoke_of s at (length s))) (sym er) (invoke_usual b2 item a id d l g z h ec e2 o2 ei ea ed sp)
 
   result_usual : (b2 b3 item a id : ℕ) (d : Said) → 16 ≤ length s → at ≤ length s - 16 → size ≡ length s - 16 - at → size ≤ 116
       → b2 ≡ begins_of s (at + 3) 48 (size + 11) → b2 ≡ 1 → c1 ≡ coded_at s (at + 5) 1 3
-      → b3 ≡ begins_of s (at + 14) 48 size → b3 ≡ 1 → item ≡ byte_at s (at + 13) → a ≡ byte_at s (at + 2) → id ≡ a → SaidAs s (parts_of s (absent_of (at + 16)) (length s) 2 item) (Parted.Usual d)
-      → result_of s at (length s) ≡ Answer.Read (made_of 2 item d id) (length s)
+      → b3 ≡ begins_of s (at + 14) 48 size → b3 ≡ 1 → item ≡ byte_at s (at + 13) → a ≡ byte_at s (at + 2) → id ≡ a → SaidAs s (parts_of s (absent_of (at + 16)) (length s) 2 item) (Some d)
+      → result_of s at (length s) ≡ Ok (made_of 2 item d id, length s)
   unfolding opened_of
   result_usual b2 b3 item a id d l g z h e2 o2 ec e3 o3 ei ea ed S =
       let H = begins s (at + 3) 48 (size + 11) (sym e2 ∙ o2) in
@@ -311,20 +309,20 @@ module _ (s : List ℕ) (at size b1 c1 : ℕ) (e1 : b1 ≡ begins_of s at 2 1) (
       result_by s at (length s) (opened_of (at + 2) (at + 3)) (opened_of (at + 3 + 2) (length s)) (opened_of (at + 5 + 2) (at + 14)) (opened_of (at + 14 + 2) (length s)) (absent_of (length s)) (absent_of (length s)) d
       I HH (O ∙ ap (λ (y : Cursor). code_of s y (length s) 1 3) (sym J)) Q D Y Z
       ∙ sym (answer_read (absent_of (length s)) (made_of 2 (byte_at s (at + 5 + 2 + 6)) d (byte_at s (at + 2))) (length s) (ready_absent (length s)))
-      ∙ ap (λ (y : ℕ). Answer.Read (made_of 2 y d (byte_at s (at + 2))) (length s)) ei'
-      ∙ ap (λ (y : ℕ). Answer.Read (made_of 2 item d y) (length s)) (sym (ed ∙ ea))
+      ∙ ap (λ (y : ℕ). Ok (made_of 2 y d (byte_at s (at + 2)), length s)) ei'
+      ∙ ap (λ (y : ℕ). Ok (made_of 2 item d y, length s)) (sym (ed ∙ ea))
 
   pub usual_result : (b2 b3 item a id : ℕ) (p : Parted) (r : Form) → 16 ≤ length s → at ≤ length s - 16 → size ≡ length s - 16 - at → size ≤ 116
       → b2 ≡ begins_of s (at + 3) 48 (size + 11) → b2 ≡ 1 → c1 ≡ coded_at s (at + 5) 1 3
       → b3 ≡ begins_of s (at + 14) 48 size → b3 ≡ 1 → item ≡ byte_at s (at + 13) → a ≡ byte_at s (at + 2) → id ≡ a → SaidAs s (parts_of s (absent_of (at + 16)) (length s) 2 item) p
       → r ≡ carried_of p 2 item id → ReadAs s (result_of s at (length s)) r
   unfolding carried_of
-  usual_result b2 b3 item a id Parted.Other r l g z h e2 o2 ec e3 o3 ei ea ed sp er = subst (ReadAs s (result_of s at (length s))) (sym er) tt
-  usual_result b2 b3 item a id (Parted.Usual d) r l g z h e2 o2 ec e3 o3 ei ea ed sp er =
+  usual_result b2 b3 item a id None r l g z h e2 o2 ec e3 o3 ei ea ed sp er = subst (ReadAs s (result_of s at (length s))) (sym er) tt
+  usual_result b2 b3 item a id (Some d) r l g z h e2 o2 ec e3 o3 ei ea ed sp er =
       subst (ReadAs s (result_of s at (length s))) (sym er) (result_usual b2 b3 item a id d l g z h e2 o2 ec e3 o3 ei ea ed sp)
 
   pub usual_error : (item a id : ℕ) (m : Component) → 12 ≤ length s → length s - 12 ≡ at → c1 ≡ coded_at s (at + 3) 4 12 → item ≡ byte_at s (at + 11) → a ≡ byte_at s (at + 2) → id ≡ a
-      → m ≡ bare_of 3 item id → error_of s at (length s) ≡ Answer.Read m (length s)
+      → m ≡ bare_of 3 item id → error_of s at (length s) ≡ Ok (m, length s)
   unfolding opened_of
   usual_error item a id m l g ec ei ea ed em =
       let I = named (length s) (omega arith) in
@@ -335,11 +333,11 @@ module _ (s : List ℕ) (at size b1 c1 : ℕ) (e1 : b1 ≡ begins_of s at 2 1) (
       let ei' : byte_at s (at + 3 + 2 + 6) ≡ item = ap (byte_at s) z11 ∙ sym ei in
       error_by s at (length s) (opened_of (at + 2) (at + 3)) o o I O Z
       ∙ sym (answer_read (opened_of (at + 3 + 2) (length s)) (bare_of 3 (byte_at s (at + 3 + 2 + 6)) (byte_at s (at + 2))) (length s) (ready_opened (at + 3 + 2) (length s)))
-      ∙ ap (λ (y : ℕ). Answer.Read (bare_of 3 y (byte_at s (at + 2))) (length s)) ei'
-      ∙ ap (λ (y : ℕ). Answer.Read (bare_of 3 item y) (length s)) (sym (ed ∙ ea))
-      ∙ ap (λ (y : Component). Answer.Read y (length s)) (sym em)
+      ∙ ap (λ (y : ℕ). Ok (bare_of 3 y (byte_at s (at + 2)), length s)) ei'
+      ∙ ap (λ (y : ℕ). Ok (bare_of 3 item y, length s)) (sym (ed ∙ ea))
+      ∙ ap (λ (y : Component). Ok (y, length s)) (sym em)
 
 -- ---- each first in the usual form
 
-pub usual_read : (s : List ℕ) (a : Answer) (q : Form) (m : Component) → ReadAs s a q → q ≡ Form.Usual m → Answer.Read m (length s) ≡ a
+pub usual_read : (s : List ℕ) (a : Answer) (q : Form) (m : Component) → ReadAs s a q → q ≡ Some m → Ok (m, length s) ≡ a
 usual_read s a q m h e = sym (subst (ReadAs s a) e h)

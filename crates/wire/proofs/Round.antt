@@ -13,7 +13,6 @@ use Rattle.wire.specs.Values.{module_by, module_at, listed_of, listed_at, absent
 use Rattle.wire.specs.Grammar.{any, code_of, item_at, parts_of, number_if, made_of, bare_of, answer_of, invoke_of, result_of, error_of, named_of, name_of, reject_of}
 use Rattle.wire.specs.Texts.{element_text, parts_text, seq_text, id_text, code_text, held_text}
 use Rattle.wire.specs.Writable.{argument_ok, result_ok}
-use Rattle.wire.specs.declared.Answer.{Answer}
 use Rattle.wire.specs.declared.Component.{Component}
 use Rattle.wire.specs.declared.Cursor.{Cursor}
 use Rattle.wire.specs.declared.Number.{Number}
@@ -21,6 +20,8 @@ use Rattle.wire.specs.declared.Said.{Said}
 use Rattle.wire.proofs.Back.{Holds, holds_left, holds_right, holds_first, holds_after, Ready, ready_opened, ready_absent, inside_opened, need_there, may_there, may_other, closed_there}
 use Rattle.wire.proofs.Goods.{Good, argument_inv, result_inv, parts_short}
 use Rattle.wire.proofs.Forms.{Says, invoke_other, invoke_called, result_called, result_other, off16, off32}
+use Rattle.wire.specs.Answers.{Answer}
+use Rattle.std.specs.Prelude.{Ok}
 
 -- ---- op and err
 
@@ -101,9 +102,9 @@ made_called c k x i end d g a b e z w =
     w.duration_is (sym e))
     ∙ built_eq c c.kind c.item c.parts c.calling c.called c.duration c.id refl refl refl refl refl refl refl
 
-pub answer_read : (c : Cursor) (m : Component) (p : ℕ) → Ready c p → Answer.Read m p ≡ answer_of c m
+pub answer_read : (c : Cursor) (m : Component) (p : ℕ) → Ready c p → Ok (m, p) ≡ answer_of c m
 unfolding answer_of
-answer_read c m p r = yes_eq _ _ _ _ _ r.zeroed (ap (Answer.Read m) (sym r.place))
+answer_read c m p r = yes_eq _ _ _ _ _ r.zeroed (ap (λ (w : ℕ). Ok (m, w)) (sym r.place))
 
 -- invoke and result by the cursors that they go through
 pub invoke_by : (s : List ℕ) (at end : ℕ) (i l o q z : Cursor) (d : Said) → i ≡ need_of s (absent_of at) end 2 1 1 → l ≡ may_of s i end 128 1 1 → o ≡ code_of s l end 1 3 → q ≡ need_of s o end 48 0 any
@@ -192,7 +193,7 @@ module _ (s : List ℕ) (c : Component) (g : Good c) (p end : ℕ) where
 
   -- { id op SEQ }
   pub invoke_back : c.kind ≡ 1 → c.id < 256 → 1 ≤ c.item → c.item ≤ 3 → argument_ok c.item c.parts ≡ 1 → Holds s p (id_text c.id ++ code_text c.item ++ seq_text c) → end ≡ p + 14 + n
-      → end ≤ length s → invoke_of s p end ≡ Answer.Read c end
+      → end ≤ length s → invoke_of s p end ≡ Ok (c, end)
   unfolding opened_of
   invoke_back k u v w a h e o =
       let q : ℕ = p + 12 in
@@ -214,7 +215,7 @@ module _ (s : List ℕ) (c : Component) (g : Good c) (p end : ℕ) where
       let T : D.cursor ≡ absent_of end = M.0 ∙ ap absent_of E in
       invoke_by s p end (opened_of (p + 2) (p + 2 + 1)) (absent_of (p + 3)) (opened_of (p + 3 + 2) (p + 3 + 2 + 7)) (opened_of (q + 2) (q + 2 + n)) (absent_of end) D
       I.0 L O.0 Q (ap (λ (y : Cursor). parts_of s y (q + 2 + n) 1 x) (sym (inside_opened (q + 2) (q + 2 + n)))) (closed_end D.cursor end T)
-      ∙ sym (answer_read (absent_of end) (made_of 1 x D (byte_at s (p + 2))) end (ready_absent end)) ∙ ap (λ (m : Component). Answer.Read m end) M.1
+      ∙ sym (answer_read (absent_of end) (made_of 1 x D (byte_at s (p + 2))) end (ready_absent end)) ∙ ap (λ (m : Component). Ok (m, end)) M.1
 
   held_length : length (code_text c.item ++ seq_text c) ≡ n + 11
   unfolding code_text seq_text element_text
@@ -241,7 +242,7 @@ module _ (s : List ℕ) (c : Component) (g : Good c) (p end : ℕ) where
 
   -- { id 30 len { op SEQ } }
   pub result_back : c.kind ≡ 2 → c.id < 256 → 1 ≤ c.item → c.item ≤ 3 → result_ok c.item c.parts ≡ 1 → Holds s p (id_text c.id ++ held_text c) → end ≡ p + 16 + n
-      → end ≤ length s → result_of s p end ≡ Answer.Read c end
+      → end ≤ length s → result_of s p end ≡ Ok (c, end)
   unfolding opened_of
   result_back k u v w a h e o =
       let H = id_then (held_text c) h in
@@ -269,7 +270,7 @@ module _ (s : List ℕ) (c : Component) (g : Good c) (p end : ℕ) where
       let J = inside_opened (p + 3 + 2) f in
       result_by s p end (opened_of (p + 2) (p + 2 + 1)) (opened_of (p + 3 + 2) f) (opened_of (p + 3 + 2 + 2) (p + 3 + 2 + 2 + 7)) (opened_of (q + 2) (q + 2 + n)) (absent_of f) (absent_of end) D
       I.0 HH (O.0 ∙ ap (λ (y : Cursor). code_of s y f 1 3) (sym J)) Q (ap (λ (y : Cursor). parts_of s y (q + 2 + n) 2 x) (sym (inside_opened (q + 2) (q + 2 + n)))) Y Z
-      ∙ sym (answer_read (absent_of end) (made_of 2 x D (byte_at s (p + 2))) end (ready_absent end)) ∙ ap (λ (m : Component). Answer.Read m end) M.1
+      ∙ sym (answer_read (absent_of end) (made_of 2 x D (byte_at s (p + 2))) end (ready_absent end)) ∙ ap (λ (m : Component). Ok (m, end)) M.1
 
   -- a component with no parts has no values
   bare_is : (k x i : ℕ) → c.kind ≡ k → c.item ≡ x → c.parts ≡ 0 → c.id ≡ i → bare_of k x i ≡ c
@@ -281,7 +282,7 @@ module _ (s : List ℕ) (c : Component) (g : Good c) (p end : ℕ) where
       built_eq c k x 0 absent_number absent_number 0 i a b d (g.calling_none l) (g.called_none m) (g.duration_none o) e
 
   -- { id err }
-  pub error_back : c.kind ≡ 3 → c.id < 256 → 4 ≤ c.item → c.item ≤ 12 → c.parts ≡ 0 → Holds s p (id_text c.id ++ code_text c.item) → end ≡ p + 12 → error_of s p end ≡ Answer.Read c end
+  pub error_back : c.kind ≡ 3 → c.id < 256 → 4 ≤ c.item → c.item ≤ 12 → c.parts ≡ 0 → Holds s p (id_text c.id ++ code_text c.item) → end ≡ p + 12 → error_of s p end ≡ Ok (c, end)
   unfolding opened_of
   error_back k u v w a h e =
       let H = id_then (code_text c.item) h in
@@ -294,8 +295,8 @@ module _ (s : List ℕ) (c : Component) (g : Good c) (p end : ℕ) where
       let Z = closed_there s o (p + 3 + 2 + 7) end (ready_opened (p + 3 + 2) (p + 3 + 2 + 7)) (omega arith) in
       error_by s p end (opened_of (p + 2) (p + 2 + 1)) o o I.0 O.0 Z
       ∙ sym (answer_read o (bare_of 3 (byte_at s (p + 3 + 2 + 6)) (byte_at s (p + 2))) (p + 3 + 2 + 7) (ready_opened (p + 3 + 2) (p + 3 + 2 + 7)))
-      ∙ ap (λ (m : ℕ). Answer.Read (bare_of 3 (byte_at s (p + 3 + 2 + 6)) (byte_at s (p + 2))) m) E
-      ∙ ap (λ (m : Component). Answer.Read m end) (bare_is 3 (byte_at s (p + 3 + 2 + 6)) (byte_at s (p + 2)) k (sym O.1) a (sym I.1))
+      ∙ ap (λ (m : ℕ). Ok (bare_of 3 (byte_at s (p + 3 + 2 + 6)) (byte_at s (p + 2)), m)) E
+      ∙ ap (λ (m : Component). Ok (m, end)) (bare_is 3 (byte_at s (p + 3 + 2 + 6)) (byte_at s (p + 2)) k (sym O.1) a (sym I.1))
 
   problem_is : (q : ℕ) → byte_at s q ≡ 128 → problem_tag (byte_at s q) ≡ 128
   unfolding problem_tag if_eq if_so
@@ -330,7 +331,7 @@ module _ (s : List ℕ) (c : Component) (g : Good c) (p end : ℕ) where
   unfolding id_text
   id_first q x h = holds_first s q 2 (1 ∷ x % 256 ∷ []) h
 
-  pub reject_named : c.kind ≡ 4 → c.id < 256 → c.item ≡ 0 → c.parts ≡ 0 → Holds s p (id_text c.id ++ (128 ∷ 1 ∷ 0 ∷ [])) → end ≡ p + 6 → reject_of s p end ≡ Answer.Read c end
+  pub reject_named : c.kind ≡ 4 → c.id < 256 → c.item ≡ 0 → c.parts ≡ 0 → Holds s p (id_text c.id ++ (128 ∷ 1 ∷ 0 ∷ [])) → end ≡ p + 6 → reject_of s p end ≡ Ok (c, end)
   unfolding opened_of
   reject_named k u v a h e =
       let H = id_then (128 ∷ 1 ∷ 0 ∷ []) h in
@@ -346,11 +347,11 @@ module _ (s : List ℕ) (c : Component) (g : Good c) (p end : ℕ) where
       let Z = closed_there s o (p + 3 + 2 + 1) end (ready_opened (p + 3 + 2) (p + 3 + 2 + 1)) (omega arith) in
       reject_by s p end (absent_of p) i o o N (I.0 ∙ named_some (absent_of p) p refl) P Z
       ∙ sym (answer_read o (bare_of 4 0 (name_of (absent_of p) (byte_at s (p + 2)))) (p + 3 + 2 + 1) (ready_opened (p + 3 + 2) (p + 3 + 2 + 1)))
-      ∙ ap (λ (m : ℕ). Answer.Read (bare_of 4 0 (name_of (absent_of p) (byte_at s (p + 2)))) m) E
-      ∙ ap (λ (m : ℕ). Answer.Read (bare_of 4 0 m) end) (name_some p (byte_at s (p + 2)))
-      ∙ ap (λ (m : Component). Answer.Read m end) (bare_is 4 0 (byte_at s (p + 2)) k v a (sym I.1))
+      ∙ ap (λ (m : ℕ). Ok (bare_of 4 0 (name_of (absent_of p) (byte_at s (p + 2))), m)) E
+      ∙ ap (λ (m : ℕ). Ok (bare_of 4 0 m, end)) (name_some p (byte_at s (p + 2)))
+      ∙ ap (λ (m : Component). Ok (m, end)) (bare_is 4 0 (byte_at s (p + 2)) k v a (sym I.1))
 
-  pub reject_nameless : c.kind ≡ 4 → c.id ≡ 256 → c.item ≡ 0 → c.parts ≡ 0 → Holds s p (5 ∷ 0 ∷ 128 ∷ 1 ∷ 0 ∷ []) → end ≡ p + 5 → reject_of s p end ≡ Answer.Read c end
+  pub reject_nameless : c.kind ≡ 4 → c.id ≡ 256 → c.item ≡ 0 → c.parts ≡ 0 → Holds s p (5 ∷ 0 ∷ 128 ∷ 1 ∷ 0 ∷ []) → end ≡ p + 5 → reject_of s p end ≡ Ok (c, end)
   unfolding opened_of
   reject_nameless k u v a h e =
       let N = may_there s (absent_of p) p end 5 0 0 (ready_absent p) 0 (128 ∷ 1 ∷ 0 ∷ []) h (λ y. omega arith) (omega arith) (omega arith) (omega arith) (omega arith) in
@@ -363,6 +364,6 @@ module _ (s : List ℕ) (c : Component) (g : Good c) (p end : ℕ) where
       let Z = closed_there s o (p + 2 + 2 + 1) end (ready_opened (p + 2 + 2) (p + 2 + 2 + 1)) (omega arith) in
       reject_by s p end i i o o N (named_none (p + 2) (p + 2 + 0) (λ y. omega arith)) P Z
       ∙ sym (answer_read o (bare_of 4 0 (name_of i (byte_at s (p + 2)))) (p + 2 + 2 + 1) (ready_opened (p + 2 + 2) (p + 2 + 2 + 1)))
-      ∙ ap (λ (m : ℕ). Answer.Read (bare_of 4 0 (name_of i (byte_at s (p + 2)))) m) E
-      ∙ ap (λ (m : ℕ). Answer.Read (bare_of 4 0 m) end) (name_none (p + 2) (p + 2 + 0) (byte_at s (p + 2)) (λ y. omega arith))
-      ∙ ap (λ (m : Component). Answer.Read m end) (bare_is 4 0 256 k v a u)
+      ∙ ap (λ (m : ℕ). Ok (bare_of 4 0 (name_of i (byte_at s (p + 2))), m)) E
+      ∙ ap (λ (m : ℕ). Ok (bare_of 4 0 m, end)) (name_none (p + 2) (p + 2 + 0) (byte_at s (p + 2)) (λ y. omega arith))
+      ∙ ap (λ (m : Component). Ok (m, end)) (bare_is 4 0 256 k v a u)

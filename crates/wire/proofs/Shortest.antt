@@ -13,20 +13,20 @@ use Rattle.wire.specs.Cursors.{absent_of, inside_of, may_of, need_of, closed_of,
 use Rattle.wire.specs.Values.{listed_at, problem_tag}
 use Rattle.wire.specs.Grammar.{any, code_of, item_at, parts_of, made_of, bare_of, answer_of, invoke_of, result_of, error_of, named_of, name_of, reject_of, kind_of, whole_of, component_of}
 use Rattle.wire.specs.Texts.{id_text, rejected_text, parts_text, component_text}
-use Rattle.wire.specs.declared.Answer.{Answer}
 use Rattle.wire.specs.declared.Component.{Component}
 use Rattle.wire.specs.declared.Cursor.{Cursor}
-use Rattle.wire.specs.declared.Head.{Head}
 use Rattle.wire.specs.declared.Said.{Said}
 use Rattle.wire.proofs.Pieces.{rejected_two, size_invoke, size_result, size_error, size_reject}
 use Rattle.wire.proofs.Levels.{HeadWithin, head_within}
 use Rattle.wire.proofs.Bounds.{Got, took, none, need_took, may_got, checked_live, closed_live, inside_live}
 use Rattle.wire.proofs.Spent.{got_far, invoke_enough, result_enough}
+use Rattle.wire.specs.Answers.{Answer, Head, element, refusal}
+use Rattle.std.specs.Prelude.{Ok, Err}
 
 -- of a component at a place, in bytes that end with it
 abbrev Fair : ℕ → ℕ → Answer → Type 0
-Fair place end (Answer.Refused n at) = Unit {0}
-Fair place end (Answer.Read m next) = (place + length (component_text m) ≤ next) × (next ≡ end)
+Fair place end (Err stop) = Unit {0}
+Fair place end (Ok (m, next)) = (place + length (component_text m) ≤ next) × (next ≡ end)
 
 answer_fair : (c : Cursor) (m : Component) (place end : ℕ) → (c.number ≡ 0 → (place + length (component_text m) ≤ c.at) × (c.at ≡ end)) → Fair place end (answer_of c m)
 unfolding answer_of
@@ -71,10 +71,10 @@ rejected_most x = both_eq x 256 (λ (t : List ℕ). length t ≤ 3) _ _ (λ _. o
 
 -- no refusal is a component
 abbrev is_read : Answer → ℕ
-is_read (Answer.Refused n place) = 0
-is_read (Answer.Read c next) = 1
+is_read (Err stop) = 0
+is_read (Ok (c, next)) = 1
 
-refused_read : (n place : ℕ) (c : Component) (next : ℕ) → Answer.Refused n place ≡ Answer.Read c next → ⊥
+refused_read : (n place : ℕ) (c : Component) (next : ℕ) → ◌≡◌ {A = Answer} (Err (refusal n place)) (Ok (c, next)) → ⊥
 refused_read n place c next e = let z : ◌≡◌ {A = ℕ} 0 1 = ap is_read e in omega arith
 
 module _ (s : List ℕ) (at end : ℕ) where
@@ -260,20 +260,20 @@ kind_fair s place tag at p =
 pub record Headed (s : List ℕ) (at : ℕ) (c : Component) (next : ℕ) : Type 0 where
   pub tag : ℕ
   pub body : ℕ
-  pub head_is : head_of s at (length s) 11 ≡ Head.Open tag body next
+  pub head_is : head_of s at (length s) 11 ≡ Ok (element tag body next)
   pub short : at + length (component_text c) ≤ next
 
-headed_by : (s : List ℕ) (at next : ℕ) (c : Component) (h : Head) → h ≡ head_of s at (length s) 11 → HeadWithin at (length s) h → whole_of s at h ≡ Answer.Read c next → Headed s at c next
+headed_by : (s : List ℕ) (at next : ℕ) (c : Component) (h : Head) → h ≡ head_of s at (length s) 11 → HeadWithin at (length s) h → whole_of s at h ≡ Ok (c, next) → Headed s at c next
 unfolding whole_of
-headed_by s at next c (Head.Bad n) e w f = absurd (refused_read n at c next f)
-headed_by s at next c (Head.Open tag body last) e (a, b, d) f =
-    let l = length-take-le last s d in
-    let g : Fair at (length (take last s)) (Answer.Read c next) = subst (Fair at (length (take last s))) f (kind_fair (take last s) at tag body (omega arith)) in
+headed_by s at next c (Err n) e w f = absurd (refused_read n at c next f)
+headed_by s at next c (Ok el) e (a, b, d) f =
+    let l = length-take-le el.next s d in
+    let g : Fair at (length (take el.next s)) (Ok (c, next)) = subst (Fair at (length (take el.next s))) f (kind_fair (take el.next s) at el.tag el.body (omega arith)) in
     let g0 = g.0 in
     let g1 = g.1 in
-    let z : last ≡ next = omega arith in
-    record { tag = tag; body = body; head_is = sym e ∙ ap (Head.Open tag body) z; short = g0 }
+    let z : el.next ≡ next = omega arith in
+    record { tag = el.tag; body = el.body; head_is = sym e ∙ ap (λ (w : ℕ). Ok (element el.tag el.body w)) z; short = g0 }
 
-pub headed : (s : List ℕ) (at next : ℕ) (c : Component) → component_of s at ≡ Answer.Read c next → Headed s at c next
+pub headed : (s : List ℕ) (at next : ℕ) (c : Component) → component_of s at ≡ Ok (c, next) → Headed s at c next
 unfolding component_of
 headed s at next c e = headed_by s at next c (head_of s at (length s) 11) refl (head_within s at (length s) 11) e

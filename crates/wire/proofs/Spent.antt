@@ -16,13 +16,14 @@ use Rattle.wire.specs.Texts.{element_text, text_if, number_text, flag_text, part
 use Rattle.wire.specs.Writable.{argument_ok, result_ok}
 use Rattle.wire.specs.declared.Component.{Component}
 use Rattle.wire.specs.declared.Cursor.{Cursor}
-use Rattle.wire.specs.declared.Digits.{Digits}
 use Rattle.wire.specs.declared.Last.{Last}
 use Rattle.wire.specs.declared.Number.{Number}
 use Rattle.wire.specs.declared.Said.{Said}
 use Rattle.wire.proofs.Pieces.{number_length}
 use Rattle.wire.proofs.Digited.{hundred, Fine}
 use Rattle.wire.proofs.Bounds.{Got, took, none, may_got, checked_live, rest_ends}
+use Rattle.wire.specs.Answers.{Digits}
+use Rattle.std.specs.Prelude.{Some, None}
 
 -- of a list all of whose elements are bytes
 abbrev pub Bytes : List ℕ → Type 0
@@ -32,8 +33,8 @@ Bytes s = (i : ℕ) → byte_at s i < 256
 
 -- digits in m bytes
 abbrev Below : ℕ → Digits → Type 0
-Below m Digits.Bad = Unit {0}
-Below m (Digits.Value v) = v < 100 ^ m
+Below m None = Unit {0}
+Below m (Some v) = v < 100 ^ m
 
 paired_below : (m v b : ℕ) → v < 100 ^ m → Below (suc m) (paired_of v b)
 unfolding paired_of
@@ -43,8 +44,8 @@ paired_below m v b h =
 
 pair_below : (m : ℕ) (d : Digits) (b : ℕ) → Below m d → Below (suc m) (pair_on d b)
 unfolding pair_on
-pair_below m Digits.Bad b h = tt
-pair_below m (Digits.Value v) b h = paired_below m v b h
+pair_below m None b h = tt
+pair_below m (Some v) b h = paired_below m v b h
 
 pairs_below : (s : List ℕ) (i m : ℕ) → Below m (pairs_at s i m)
 unfolding pairs_at
@@ -97,8 +98,8 @@ natured_octets m first second v h g =
 
 digited_octets : (m first second : ℕ) (d : Digits) → m ≤ 8 → Below m d → Octets m (digited_of m first second d)
 unfolding digited_of
-digited_octets m first second Digits.Bad h g = none_octets m
-digited_octets m first second (Digits.Value v) h g = natured_octets m first second v h g
+digited_octets m first second None h g = none_octets m
+digited_octets m first second (Some v) h g = natured_octets m first second v h g
 
 party_octets : (s : List ℕ) (i next : ℕ) → Octets (next - (i + 2)) (party_of s i next)
 unfolding party_of party_by

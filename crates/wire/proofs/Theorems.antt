@@ -15,11 +15,7 @@ use Rattle.text.proofs.Cases.{yes_lt, no_lt, yes_eq, no_eq, both_lt, both_eq}
 use Rattle.wire.specs.Parameters.{Parameter, refused, holds, before, onward, walk_of, framed_of, held_in, parameter_of}
 use Rattle.wire.specs.Texts.{component_text, parameter_text, written_of, leaves_of}
 use Rattle.wire.specs.Writable.{fields_of, bad_of, writable_of}
-use Rattle.wire.specs.declared.Answer.{Answer}
 use Rattle.wire.specs.declared.Component.{Component}
-use Rattle.wire.specs.declared.Frame.{Frame}
-use Rattle.wire.specs.declared.Head.{Head}
-use Rattle.wire.specs.declared.Seen.{Seen}
 use Rattle.wire.specs.declared.Written.{Written}
 use Rattle.wire.proofs.Again.{read_back, frame_said, parameter_back}
 use Rattle.wire.proofs.Back.{Holds}
@@ -33,6 +29,8 @@ use Rattle.wire.proofs.Walks.{read_on, walk_end, walk_on, good_walk, bad_refused
 use Rattle.wire.proofs.Levels.{HeadWithin, head_within, Ends, sequence_ends}
 use Rattle.wire.proofs.Places.{Placed, component_placed, Met, walk_met}
 use Rattle.wire.proofs.Shortest.{headed}
+use Rattle.wire.specs.Answers.{Answer, Frame, Head, Seen, element, refusal}
+use Rattle.std.specs.Prelude.{Ok, Err}
 
 behind : (a t u : List ℕ) → Holds (a ++ (t ++ u)) (length a) t
 behind a t u j h = get_or-append-add a (t ++ u) j 0 ∙ get_or-append t u 0 j h
@@ -43,7 +41,7 @@ alike_front s n other l i h = sym (get_or-append (take n s) other 0 i (omega ari
 -- 02 #105: "a written component reads back as itself": wherever it stands, and whatever stands before and behind it. (Sized: each of its
 -- two counts is a byte, as the type has it.)
 pub reads_back : (front : List ℕ) (c : Component) (rest : List ℕ) → Sized c → writable_of c ≡ 1
-    → component_of (front ++ (component_text c ++ rest)) (length front) ≡ Answer.Read c (length front + length (component_text c))
+    → component_of (front ++ (component_text c ++ rest)) (length front) ≡ Ok (c, length front + length (component_text c))
 reads_back front c rest z e =
     let l = length-append front (component_text c ++ rest) in
     let m = length-append (component_text c) rest in
@@ -54,44 +52,44 @@ pub parameter_reads_back : (c : Component) → Sized c → writable_of c ≡ 1 �
 parameter_reads_back c z e = parameter_back c z e
 
 -- Every proper beginning of a component that can be read is 11 at its first byte, whoever wrote it.
-pub beginning_is_cut : (s : List ℕ) (at next k : ℕ) (c : Component) → component_of s at ≡ Answer.Read c next → k < next → component_of (take k s) at ≡ Answer.Refused 11 at
+pub beginning_is_cut : (s : List ℕ) (at next k : ℕ) (c : Component) → component_of s at ≡ Ok (c, next) → k < next → component_of (take k s) at ≡ Err (refusal 11 at)
 unfolding component_of whole_of
 beginning_is_cut s at next k c e h =
     let d = headed s at next c e in
-    let w : HeadWithin at (length s) (Head.Open d.tag d.body next) = subst (HeadWithin at (length s)) d.head_is (head_within s at (length s) 11) in
+    let w : HeadWithin at (length s) (Ok (element d.tag d.body next)) = subst (HeadWithin at (length s)) d.head_is (head_within s at (length s) 11) in
     let w2 = w.2 in
     let l = length-take-le k s (omega arith) in
-    let f : Less s at (Head.Open d.tag d.body next) = subst (Less s at) d.head_is (head_less s at (length s) 11) in
+    let f : Less s at (Ok (element d.tag d.body next)) = subst (Less s at) d.head_is (head_less s at (length s) 11) in
     ap (whole_of (take k s) at) (ap (λ (n : ℕ). head_of (take k s) at n 11) l ∙ f (take k s) k 11 (alike_take s k) h)
 
 -- The answer to a component whose bytes are all there, a refusal or not, does not depend on what follows it.
-pub nothing_after_it : (s : List ℕ) (at tag body next : ℕ) (other : List ℕ) → head_of s at (length s) 11 ≡ Head.Open tag body next → component_of (take next s ++ other) at ≡ component_of s at
+pub nothing_after_it : (s : List ℕ) (at tag body next : ℕ) (other : List ℕ) → head_of s at (length s) 11 ≡ Ok (element tag body next) → component_of (take next s ++ other) at ≡ component_of s at
 unfolding component_of whole_of
 nothing_after_it s at tag body next other e =
     let t : List ℕ = take next s ++ other in
-    let w : HeadWithin at (length s) (Head.Open tag body next) = subst (HeadWithin at (length s)) e (head_within s at (length s) 11) in
+    let w : HeadWithin at (length s) (Ok (element tag body next)) = subst (HeadWithin at (length s)) e (head_within s at (length s) 11) in
     let w2 = w.2 in
     let l = length-take-le next s w2 in
     let m = length-append (take next s) other in
-    let f : Again s at (Head.Open tag body next) = subst (Again s at) e (head_again s at (length s) 11) in
-    let g : head_of (take next s ++ other) at (length (take next s ++ other)) 11 ≡ Head.Open tag body next = f (take next s ++ other) (length (take next s ++ other)) 11 (alike_front s next other l) (omega arith) in
+    let f : Again s at (Ok (element tag body next)) = subst (Again s at) e (head_again s at (length s) 11) in
+    let g : head_of (take next s ++ other) at (length (take next s ++ other)) 11 ≡ Ok (element tag body next) = f (take next s ++ other) (length (take next s ++ other)) 11 (alike_front s next other l) (omega arith) in
     ap (whole_of (take next s ++ other) at) g ∙ ap (λ (x : List ℕ). kind_of x at tag body) (take_at (take next s) other next l) ∙ ap (whole_of s at) (sym e)
 
 -- No encoding of a component is shorter than the one that is written: whatever bytes were read as it, from a place to the next, its text
 -- has no more.
-pub written_is_shortest : (s : List ℕ) (at next : ℕ) (c : Component) → component_of s at ≡ Answer.Read c next → at + length (component_text c) ≤ next
+pub written_is_shortest : (s : List ℕ) (at next : ℕ) (c : Component) → component_of s at ≡ Ok (c, next) → at + length (component_text c) ≤ next
 written_is_shortest s at next c e = (headed s at next c e).short
 
 -- No length leaves its holder: an element's contents begin after two bytes at least and end no later than the holder, whatever its length
 -- says, and elements one after the other end where it ends.
-pub stays_inside : (s : List ℕ) (at end short tag body next : ℕ) → head_of s at end short ≡ Head.Open tag body next → (at + 2 ≤ body) × (body ≤ next) × (next ≤ end)
+pub stays_inside : (s : List ℕ) (at end short tag body next : ℕ) → head_of s at end short ≡ Ok (element tag body next) → (at + 2 ≤ body) × (body ≤ next) × (next ≤ end)
 stays_inside s at end short tag body next e = subst (HeadWithin at end) e (head_within s at end short)
 
-pub fills_its_holder : (s : List ℕ) (at end depth known next : ℕ) → at ≤ end → sequence_of s at end depth known ≡ Seen.Read next → next ≡ end
+pub fills_its_holder : (s : List ℕ) (at end depth known next : ℕ) → at ≤ end → sequence_of s at end depth known ≡ Ok next → next ≡ end
 fills_its_holder s at end depth known next h e = subst (Ends end) e (sequence_ends s at end depth known h)
 
 -- A refusal's place is one of the bytes, or their end: a host that points at it points into what it gave.
-pub refused_within : (s : List ℕ) (at n place : ℕ) → at ≤ length s → component_of s at ≡ Answer.Refused n place → place ≤ length s
+pub refused_within : (s : List ℕ) (at n place : ℕ) → at ≤ length s → component_of s at ≡ Err (refusal n place) → place ≤ length s
 refused_within s at n place h e = subst (Placed (length s)) e (component_placed s at h)
 
 -- A parameter of any number of components reads back as just these, in order. (Each: every one is Sized and can be written.)
@@ -127,8 +125,8 @@ several_read_back cs e =
 -- ---- whole parameters: as long as they say, and refused inside
 
 abbrev Bounds : List ℕ → Frame → Type 0
-Bounds s (Frame.Bad n place) = place ≤ length s
-Bounds s Frame.Good = (length s ≡ 2 + byte_at s 1) × (3 ≤ length s)
+Bounds s (Err stop) = stop.place ≤ length s
+Bounds s (Ok u) = (length s ≡ 2 + byte_at s 1) × (3 ≤ length s)
 
 frame_bounds : (s : List ℕ) → Bounds s (framed_of s)
 unfolding framed_of
@@ -151,9 +149,9 @@ Held s (holds cs) = length s ≡ 2 + byte_at s 1
 
 held_by : (s : List ℕ) (f : Frame) (p : Parameter) → Bounds s f → (3 ≤ length s → Met (length s) p) → Held s (held_in f p)
 unfolding held_in
-held_by s (Frame.Bad n place) p h m = h
-held_by s Frame.Good (refused n place) h m = m h.1
-held_by s Frame.Good (holds cs) h m = h.0
+held_by s (Err stop) p h m = h
+held_by s (Ok u) (refused n place) h m = m h.1
+held_by s (Ok u) (holds cs) h m = h.0
 
 parameter_held : (s : List ℕ) → Held s (parameter_of s)
 unfolding parameter_of
@@ -166,7 +164,7 @@ parameter_beginning_is_cut s k cs e h =
     let w : length s ≡ 2 + byte_at s 1 = subst (Held s) e (parameter_held s) in
     let l = length-take-le k s (omega arith) in
     bad_refused (take k s) 11 0
-    (both_lt k 2 (λ (_ : ℕ). framed_of (take k s) ≡ Frame.Bad 11 0) 0 0 (λ g. sym (yes_lt _ _ _ _ _ (omega arith) refl))
+    (both_lt k 2 (λ (_ : ℕ). framed_of (take k s) ≡ Err (refusal 11 0)) 0 0 (λ g. sym (yes_lt _ _ _ _ _ (omega arith) refl))
     (λ g. let b : byte_at (take k s) 1 ≡ byte_at s 1 = get_or-take k s 1 0 (omega arith) in
     sym (no_lt _ _ _ _ _ (omega arith) (yes_lt _ _ _ _ _ (omega arith) refl))))
 
@@ -177,23 +175,23 @@ parameter_refused_within s n place e = subst (Held s) e (parameter_held s)
 -- 02 #105: "11 cut short, 12 bad length, 13 too deep, 14 not a REV component": a refusal is one of these, of a component and of a whole
 -- parameter, so that none is taken for what a host is given with a length (0), with a field (3) or with a room (8). Which of them where is
 -- said by `beginning_is_cut`, `nothing_after_it` and the worked rows.
-pub refused_is_numbered : (s : List ℕ) (at n place : ℕ) → component_of s at ≡ Answer.Refused n place → (11 ≤ n) × (n ≤ 14)
+pub refused_is_numbered : (s : List ℕ) (at n place : ℕ) → component_of s at ≡ Err (refusal n place) → (11 ≤ n) × (n ≤ 14)
 refused_is_numbered s at n place e = subst Numbered e (component_numbered s at)
 
 pub parameter_refused_is_numbered : (s : List ℕ) (n place : ℕ) → parameter_of s ≡ refused n place → (11 ≤ n) × (n ≤ 14)
 parameter_refused_is_numbered s n place e = subst NumberedWhole e (parameter_numbered s)
 
 -- Whatever is read can be written, as long as bytes are bytes: nothing comes off the wire that could not be sent on.
-pub read_is_writable : (s : List ℕ) (at next : ℕ) (c : Component) → ((i : ℕ) → byte_at s i < 256) → component_of s at ≡ Answer.Read c next → writable_of c ≡ 1
+pub read_is_writable : (s : List ℕ) (at next : ℕ) (c : Component) → ((i : ℕ) → byte_at s i < 256) → component_of s at ≡ Ok (c, next) → writable_of c ≡ 1
 read_is_writable s at next c b e = (read_writable s at next c b e).1
 
 -- And what is then written is read as the same: however loosely a neighbour wrote a component, its shortest form says just what it said.
-pub shortest_says_the_same : (s : List ℕ) (at next : ℕ) (c : Component) (front rest : List ℕ) → ((i : ℕ) → byte_at s i < 256) → component_of s at ≡ Answer.Read c next
-    → component_of (front ++ (component_text c ++ rest)) (length front) ≡ Answer.Read c (length front + length (component_text c))
+pub shortest_says_the_same : (s : List ℕ) (at next : ℕ) (c : Component) (front rest : List ℕ) → ((i : ℕ) → byte_at s i < 256) → component_of s at ≡ Ok (c, next)
+    → component_of (front ++ (component_text c ++ rest)) (length front) ≡ Ok (c, length front + length (component_text c))
 shortest_says_the_same s at next c front rest b e = let w = read_writable s at next c b e in reads_back front c rest w.0 w.1
 
 -- No operation and no error is read that the module does not list, whatever the bytes.
-pub read_is_listed : (s : List ℕ) (at next : ℕ) (c : Component) → component_of s at ≡ Answer.Read c next → Listed c.kind c.item
+pub read_is_listed : (s : List ℕ) (at next : ℕ) (c : Component) → component_of s at ≡ Ok (c, next) → Listed c.kind c.item
 read_is_listed s at next c e = read_listed s at next c e
 
 -- ---- what cannot be written, and the field that is told

@@ -13,19 +13,19 @@ use Rattle.wire.specs.Heads.{filled_of, length_of, head_from, head_of}
 use Rattle.wire.specs.Cursors.{stopped_of, extra_of, closed_of}
 use Rattle.wire.specs.Grammar.{answer_of, invoke_of, result_of, error_of, reject_of, kind_of, whole_of, component_of}
 use Rattle.wire.specs.Parameters.{Parameter, refused, holds, before, onward, walk_by, walk_of, framed_of, held_in, parameter_of, told_of, several_of}
-use Rattle.wire.specs.declared.Answer.{Answer}
 use Rattle.wire.specs.declared.Component.{Component}
 use Rattle.wire.specs.declared.Cursor.{Cursor}
-use Rattle.wire.specs.declared.Frame.{Frame}
-use Rattle.wire.specs.declared.Head.{Head}
 use Rattle.wire.specs.declared.Whole.{Whole}
 use Rattle.wire.proofs.Levels.{HeadWithin, head_within}
+use Rattle.wire.specs.declared.Refusal.{Refusal}
+use Rattle.wire.specs.Answers.{Answer, Frame, Head, Told, refusal}
+use Rattle.std.specs.Prelude.{Ok, Err}
 
 -- ---- inside a component no refusal of a head is but 12
 
 abbrev pub Twelve : Head → Type 0
-Twelve (Head.Bad n) = n ≡ 12
-Twelve (Head.Open tag body next) = Unit {0}
+Twelve (Err n) = n ≡ 12
+Twelve (Ok el) = Unit {0}
 
 filled_twelve : (tag body end len : ℕ) → Twelve (filled_of tag body end len 12)
 unfolding filled_of
@@ -43,8 +43,8 @@ head_twelve s at end =
 
 pub extra_stops : (h : Head) (place : ℕ) → Twelve h → (extra_of h place).number ≡ 0 → ⊥
 unfolding extra_of stopped_of
-extra_stops (Head.Bad n) place t e = omega arith
-extra_stops (Head.Open tag body next) place t e = omega arith
+extra_stops (Err n) place t e = omega arith
+extra_stops (Ok el) place t e = omega arith
 
 -- a holder is closed only at its end
 pub closed_past : (s : List ℕ) (c : Cursor) (end : ℕ) → (closed_of s c end).number ≡ 0 → end ≤ (closed_of s c end).at
@@ -58,8 +58,8 @@ closed_past s c end =
 -- ---- a component has two bytes at least
 
 abbrev Past : ℕ → Answer → Type 0
-Past at (Answer.Refused n place) = Unit {0}
-Past at (Answer.Read c next) = at + 2 ≤ next
+Past at (Err stop) = Unit {0}
+Past at (Ok (c, next)) = at + 2 ≤ next
 
 answer_past : (s : List ℕ) (c : Cursor) (m : Component) (at end : ℕ) → at + 2 ≤ end → Past at (answer_of (closed_of s c end) m)
 unfolding answer_of
@@ -76,22 +76,22 @@ kind_past s place tag at h =
 
 whole_past : (s : List ℕ) (at : ℕ) (h : Head) → HeadWithin at (length s) h → Past at (whole_of s at h)
 unfolding whole_of
-whole_past s at (Head.Bad n) w = tt
-whole_past s at (Head.Open tag body next) (f, g, i) = let e = length-take-le next s i in kind_past (take next s) at tag body (omega arith)
+whole_past s at (Err n) w = tt
+whole_past s at (Ok el) (f, g, i) = let e = length-take-le el.next s i in kind_past (take el.next s) at el.tag el.body (omega arith)
 
 component_past : (s : List ℕ) (at : ℕ) → Past at (component_of s at)
 unfolding component_of
 component_past s at = whole_past s at (head_of s at (length s) 11) (head_within s at (length s) 11)
 
-pub read_on : (s : List ℕ) (at next : ℕ) (c : Component) (a : Answer) → a ≡ component_of s at → a ≡ Answer.Read c next → at + 2 ≤ next
+pub read_on : (s : List ℕ) (at next : ℕ) (c : Component) (a : Answer) → a ≡ component_of s at → a ≡ Ok (c, next) → at + 2 ≤ next
 read_on s at next c a e f = subst (Past at) (sym e ∙ f) (component_past s at)
 
 -- ---- more steps than enough change nothing
 
 onward_same : (at : ℕ) (a : Answer) (f g : ℕ → Parameter) → Past at a → ((next : ℕ) → at + 2 ≤ next → f next ≡ g next) → onward a f ≡ onward a g
 unfolding onward
-onward_same at (Answer.Refused n place) f g h e = refl
-onward_same at (Answer.Read c next) f g h e = ap (before c) (e next h)
+onward_same at (Err stop) f g h e = refl
+onward_same at (Ok (c, next)) f g h e = ap (before c) (e next h)
 
 le_same : (a b : ℕ) (x y z : Parameter) → (b < a → y ≡ z) → if_le a b x y ≡ if_le a b x z
 le_same a b x y z e =
@@ -123,7 +123,7 @@ walk_on s place h = walk_is s place ∙ sym (no_le _ _ _ _ _ h refl)
 several_before : (k : ℕ) (c : Component) (p : Parameter) → several_of (k + 1) p ≡ several_of k (before c p)
 unfolding several_of before
 several_before k c (refused n place) = refl
-several_before k c (holds cs) = let e : k + 1 + length cs ≡ k + suc (length cs) = omega arith in ap Whole.Several e
+several_before k c (holds cs) = let e : k + 1 + length cs ≡ k + suc (length cs) = omega arith in ap (λ (x : ℕ). Ok (Whole.Several x)) e
 
 pub record Going (s : List ℕ) (at place count : ℕ) : Type 0 where
   pub same : several_of count (walk_of s place) ≡ several_of 1 (walk_of s at)
@@ -133,58 +133,58 @@ pub going_start : (s : List ℕ) (at : ℕ) → Going s at at 1
 going_start s at = record { same = refl; few = omega arith }
 
 module _ (s : List ℕ) (at place count : ℕ) (t : Going s at place count) where
-  pub going_done : length s ≤ place → Whole.Several count ≡ several_of 1 (walk_of s at)
+  pub going_done : length s ≤ place → Ok (Whole.Several count) ≡ several_of 1 (walk_of s at)
   unfolding several_of
-  going_done h = let e : count ≡ count + 0 = omega arith in ap Whole.Several e ∙ ap (several_of count) (sym (walk_end s place h)) ∙ t.same
+  going_done h = let e : count ≡ count + 0 = omega arith in ap (λ (x : ℕ). Ok (Whole.Several x)) e ∙ ap (several_of count) (sym (walk_end s place h)) ∙ t.same
 
   module _ (a : Answer) (h : place < length s) (e : a ≡ component_of s place) where
     on : several_of count (onward a (walk_of s)) ≡ several_of 1 (walk_of s at)
     on = ap (λ (x : Answer). several_of count (onward x (walk_of s))) e ∙ ap (several_of count) (sym (walk_on s place h)) ∙ t.same
 
-    pub going_refused : (n met : ℕ) → a ≡ Answer.Refused n met → Whole.Refused n met ≡ several_of 1 (walk_of s at)
+    pub going_refused : (stop : Refusal) → a ≡ Err stop → Err stop ≡ several_of 1 (walk_of s at)
     unfolding several_of onward
-    going_refused n met f = ap (λ (x : Answer). several_of count (onward x (walk_of s))) (sym f) ∙ on
+    going_refused stop f = ap (λ (x : Answer). several_of count (onward x (walk_of s))) (sym f) ∙ on
 
-    module _ (c : Component) (next : ℕ) (f : a ≡ Answer.Read c next) where
-      pub going_on : Going s at next (count + 1)
+    module _ (p : Component × ℕ) (f : a ≡ Ok p) where
+      pub going_on : Going s at p.1 (count + 1)
       unfolding onward
       going_on =
-          let l = read_on s place next c a e f in
+          let l = read_on s place p.1 p.0 a e f in
           let k = t.few in
           record {
-            same = several_before count c (walk_of s next) ∙ ap (λ (x : Answer). several_of count (onward x (walk_of s))) (sym f) ∙ on;
+            same = several_before count p.0 (walk_of s p.1) ∙ ap (λ (x : Answer). several_of count (onward x (walk_of s))) (sym f) ∙ on;
             few = omega arith;
           }
 
-      pub going_fits : next < 2 ^ 64 → count + 1 < 2 ^ 64
-      going_fits g = let l = read_on s place next c a e f in let k = t.few in omega arith
+      pub going_fits : p.1 < 2 ^ 64 → count + 1 < 2 ^ 64
+      going_fits g = let l = read_on s place p.1 p.0 a e f in let k = t.few in omega arith
 
-      pub going_less : length s - next < length s - place
-      going_less = let l = read_on s place next c a e f in omega arith
+      pub going_less : length s - p.1 < length s - place
+      going_less = let l = read_on s place p.1 p.0 a e f in omega arith
 
 -- ---- one component, none, several
 
 told_before : (c : Component) (a : Answer) (f : ℕ → Parameter) → several_of 1 (onward a f) ≡ told_of (before c (onward a f))
 unfolding several_of onward told_of before
-told_before c (Answer.Refused n place) f = refl
-told_before c (Answer.Read d next) f = by (f next)
+told_before c (Err stop) f = refl
+told_before c (Ok (d, next)) f = by (f next)
   where
     by : (p : Parameter) → several_of 1 (before d p) ≡ told_of (before c (before d p))
     by (refused n place) = refl
-    by (holds cs) = let e : 1 + suc (length cs) ≡ suc (suc (length cs)) = omega arith in ap Whole.Several e
+    by (holds cs) = let e : 1 + suc (length cs) ≡ suc (suc (length cs)) = omega arith in ap (λ (x : ℕ). Ok (Whole.Several x)) e
 
 module _ (s : List ℕ) (c : Component) (next : ℕ) where
-  pub one_alone : length s ≤ next → Whole.One c ≡ told_of (before c (walk_of s next))
+  pub one_alone : length s ≤ next → Ok (Whole.One c) ≡ told_of (before c (walk_of s next))
   unfolding told_of before
   one_alone h = ap (λ (p : Parameter). told_of (before c p)) (sym (walk_end s next h))
 
-  pub one_more : (r : Whole) → next < length s → r ≡ several_of 1 (walk_of s next) → r ≡ told_of (before c (walk_of s next))
+  pub one_more : (r : Told) → next < length s → r ≡ several_of 1 (walk_of s next) → r ≡ told_of (before c (walk_of s next))
   one_more r h e =
       let w = walk_on s next h in
       e ∙ ap (several_of 1) w ∙ told_before c (component_of s next) (walk_of s) ∙ ap (λ (p : Parameter). told_of (before c p)) (sym w)
 
 module _ (s : List ℕ) (at : ℕ) where
-  pub none_there : length s ≤ at → Whole.Empty ≡ told_of (walk_of s at)
+  pub none_there : length s ≤ at → Ok Whole.Empty ≡ told_of (walk_of s at)
   unfolding told_of
   none_there h = ap told_of (sym (walk_end s at h))
 
@@ -192,64 +192,64 @@ module _ (s : List ℕ) (at : ℕ) where
     first_by : told_of (onward a (walk_of s)) ≡ told_of (walk_of s at)
     first_by = ap (λ (x : Answer). told_of (onward x (walk_of s))) e ∙ ap told_of (sym (walk_on s at h))
 
-    pub first_refused : (n place : ℕ) → a ≡ Answer.Refused n place → Whole.Refused n place ≡ told_of (walk_of s at)
+    pub first_refused : (stop : Refusal) → a ≡ Err stop → Err stop ≡ told_of (walk_of s at)
     unfolding told_of onward
-    first_refused n place f = ap (λ (x : Answer). told_of (onward x (walk_of s))) (sym f) ∙ first_by
+    first_refused stop f = ap (λ (x : Answer). told_of (onward x (walk_of s))) (sym f) ∙ first_by
 
-    pub first_read : (c : Component) (next : ℕ) (r : Whole) → a ≡ Answer.Read c next → r ≡ told_of (before c (walk_of s next)) → r ≡ told_of (walk_of s at)
+    pub first_read : (p : Component × ℕ) (r : Told) → a ≡ Ok p → r ≡ told_of (before p.0 (walk_of s p.1)) → r ≡ told_of (walk_of s at)
     unfolding onward
-    first_read c next r f g = g ∙ ap (λ (x : Answer). told_of (onward x (walk_of s))) (sym f) ∙ first_by
+    first_read p r f g = g ∙ ap (λ (x : Answer). told_of (onward x (walk_of s))) (sym f) ∙ first_by
 
 -- ---- the parameter's own bytes
 
 module _ (s : List ℕ) where
-  pub frame_none : length s < 2 → Frame.Bad 11 0 ≡ framed_of s
+  pub frame_none : length s < 2 → Err (refusal 11 0) ≡ framed_of s
   unfolding framed_of
   frame_none h = yes_lt _ _ _ _ _ h refl
 
   module _ (b w : ℕ) (h : 2 ≤ length s) (e : b ≡ byte_at s 1) (f : w ≡ b) where
-    pub frame_less : length s < 2 + w → Frame.Bad 11 0 ≡ framed_of s
+    pub frame_less : length s < 2 + w → Err (refusal 11 0) ≡ framed_of s
     unfolding framed_of
     frame_less g = no_lt _ _ _ _ _ h (yes_lt _ _ _ _ _ (omega arith) refl)
 
     module _ (i : 2 + w ≤ length s) where
-      pub frame_more : 2 + w < length s → Frame.Bad 12 0 ≡ framed_of s
+      pub frame_more : 2 + w < length s → Err (refusal 12 0) ≡ framed_of s
       unfolding framed_of
       frame_more g = no_lt _ _ _ _ _ h (no_lt _ _ _ _ _ (omega arith) (yes_lt _ _ _ _ _ (omega arith) refl))
 
       module _ (j : length s ≤ 2 + w) where
-        pub frame_empty : 2 + w ≡ 2 → Frame.Bad 12 0 ≡ framed_of s
+        pub frame_empty : 2 + w ≡ 2 → Err (refusal 12 0) ≡ framed_of s
         unfolding framed_of
         frame_empty g = no_lt _ _ _ _ _ h (no_lt _ _ _ _ _ (omega arith) (no_lt _ _ _ _ _ (omega arith) (yes_eq _ _ _ _ _ (omega arith) refl)))
 
         module _ (k : 2 + w ≡ 2 → ⊥) where
-          inner : (r : Frame) → r ≡ if_eq (byte_at s 0) 50 (if_eq (byte_at s 2) 145 Frame.Good (Frame.Bad 14 2)) (Frame.Bad 14 0) → r ≡ framed_of s
+          inner : (r : Frame) → r ≡ if_eq (byte_at s 0) 50 (if_eq (byte_at s 2) 145 (Ok tt) (Err (refusal 14 2))) (Err (refusal 14 0)) → r ≡ framed_of s
           unfolding framed_of
           inner r q = no_lt _ _ _ _ _ h (no_lt _ _ _ _ _ (omega arith) (no_lt _ _ _ _ _ (omega arith) (no_eq _ _ _ _ _ (λ z. k (omega arith)) q)))
 
-          pub frame_other : (byte_at s 0 ≡ 50 → ⊥) → Frame.Bad 14 0 ≡ framed_of s
-          frame_other g = inner (Frame.Bad 14 0) (no_eq _ _ _ _ _ g refl)
+          pub frame_other : (byte_at s 0 ≡ 50 → ⊥) → Err (refusal 14 0) ≡ framed_of s
+          frame_other g = inner (Err (refusal 14 0)) (no_eq _ _ _ _ _ g refl)
 
           module _ (m : byte_at s 0 ≡ 50) where
-            pub frame_profile : (byte_at s 2 ≡ 145 → ⊥) → Frame.Bad 14 2 ≡ framed_of s
-            frame_profile g = inner (Frame.Bad 14 2) (yes_eq _ _ _ _ _ m (no_eq _ _ _ _ _ g refl))
+            pub frame_profile : (byte_at s 2 ≡ 145 → ⊥) → Err (refusal 14 2) ≡ framed_of s
+            frame_profile g = inner (Err (refusal 14 2)) (yes_eq _ _ _ _ _ m (no_eq _ _ _ _ _ g refl))
 
-            pub frame_good : byte_at s 2 ≡ 145 → Frame.Good ≡ framed_of s
-            frame_good g = inner Frame.Good (yes_eq _ _ _ _ _ m (yes_eq _ _ _ _ _ g refl))
+            pub frame_good : byte_at s 2 ≡ 145 → Ok tt ≡ framed_of s
+            frame_good g = inner (Ok tt) (yes_eq _ _ _ _ _ m (yes_eq _ _ _ _ _ g refl))
 
   -- then the parameter is what its components say, else it is refused
-  pub good_walk : framed_of s ≡ Frame.Good → parameter_of s ≡ walk_of s 3
+  pub good_walk : framed_of s ≡ Ok tt → parameter_of s ≡ walk_of s 3
   unfolding parameter_of held_in
   good_walk e = ap (λ (r : Frame). held_in r (walk_of s 3)) e
 
-  pub bad_refused : (n place : ℕ) → framed_of s ≡ Frame.Bad n place → parameter_of s ≡ refused n place
+  pub bad_refused : (n place : ℕ) → framed_of s ≡ Err (refusal n place) → parameter_of s ≡ refused n place
   unfolding parameter_of held_in
   bad_refused n place e = ap (λ (r : Frame). held_in r (walk_of s 3)) e
 
   module _ (r : Frame) (e : r ≡ framed_of s) where
-    pub told_bad : (n place : ℕ) → r ≡ Frame.Bad n place → Whole.Refused n place ≡ told_of (parameter_of s)
+    pub told_bad : (stop : Refusal) → r ≡ Err stop → Err stop ≡ told_of (parameter_of s)
     unfolding told_of
-    told_bad n place f = ap told_of (sym (bad_refused n place (sym e ∙ f)))
+    told_bad stop f = ap told_of (sym (bad_refused stop.number stop.place (sym e ∙ f)))
 
-    pub told_good : (w : Whole) → r ≡ Frame.Good → w ≡ told_of (walk_of s 3) → w ≡ told_of (parameter_of s)
-    told_good w f q = q ∙ ap told_of (sym (good_walk (sym e ∙ f)))
+    pub told_good : (u : Unit {0}) (w : Told) → r ≡ Ok u → w ≡ told_of (walk_of s 3) → w ≡ told_of (parameter_of s)
+    told_good u w f q = q ∙ ap told_of (sym (good_walk (sym e ∙ f)))

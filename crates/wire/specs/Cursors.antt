@@ -1,15 +1,12 @@
 -- A cursor over the elements of one holder, up to the holder's `end`. Once stopped it stays.
 -- Assumes nothing.
-use Rattle.std.specs.Prelude.{List, ℕ, ◌-◌}
+use Rattle.std.specs.Prelude.{List, ℕ, ◌-◌, Ok, Err}
 use Rattle.text.specs.Choose.{if_lt, if_le, if_eq}
 use Rattle.wire.specs.Bytes.{byte_at}
 use Rattle.wire.specs.Heads.{bad_length, head_of}
 use Rattle.wire.specs.Elements.{not_ours, sequence_of}
 use Rattle.wire.specs.declared.Cursor.{Cursor}
-use Rattle.wire.specs.declared.Head.{Head}
-use Rattle.wire.specs.declared.Head.TheVariants.{Bad, Open}
-use Rattle.wire.specs.declared.Seen.{Seen}
-use Rattle.wire.specs.declared.Seen.TheVariants.{Read, Stop}
+use Rattle.wire.specs.Answers.{Head, Seen}
 
 -- stopped by a refusal, at its place
 unfoldable pub stopped_of : ℕ → ℕ → Cursor
@@ -34,8 +31,8 @@ sized_of place inner next least most =
     (opened_of inner next))
 
 unfoldable pub look_of : Head → ℕ → ℕ → ℕ → ℕ → Cursor
-look_of (Bad n) place tag least most = stopped_of n place
-look_of (Open t inner next) place tag least most = if_eq t tag (sized_of place inner next least most) (stopped_of not_ours place)
+look_of (Err n) place tag least most = stopped_of n place
+look_of (Ok e) place tag least most = if_eq e.tag tag (sized_of place e.body e.next least most) (stopped_of not_ours place)
 
 -- an element with this tag must stand here, and its contents are `least` to `most` bytes. 12 comes before 14
 unfoldable pub need_of : List ℕ → Cursor → ℕ → ℕ → ℕ → ℕ → Cursor
@@ -52,8 +49,8 @@ may_of s c end tag least most =
     c
 
 unfoldable pub extra_of : Head → ℕ → Cursor
-extra_of (Bad n) place = stopped_of n place
-extra_of (Open t inner next) place = stopped_of not_ours place
+extra_of (Err n) place = stopped_of n place
+extra_of (Ok e) place = stopped_of not_ours place
 
 -- nothing more may stand in the holder
 unfoldable pub closed_of : List ℕ → Cursor → ℕ → Cursor
@@ -64,8 +61,8 @@ unfoldable pub checked_of : ℕ → ℕ → Cursor → Cursor
 checked_of ok from c = if_eq c.body 0 c (if_eq ok 1 c (stopped_of not_ours from))
 
 unfoldable pub seen_of : Seen → Cursor
-seen_of (Read next) = absent_of next
-seen_of (Stop n place) = stopped_of n place
+seen_of (Ok next) = absent_of next
+seen_of (Err r) = stopped_of r.number r.place
 
 -- any elements that are not known, up to the holder's end
 unfoldable pub rest_of : List ℕ → Cursor → ℕ → ℕ → ℕ → Cursor

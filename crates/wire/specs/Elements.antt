@@ -1,12 +1,9 @@
 -- An element with what it holds, and elements one after the other.
 -- Assumes nothing.
-use Rattle.std.specs.Prelude.{List, ℕ, zero, suc, ◌-◌, ◌*◌, ◌/◌, ◌%◌}
+use Rattle.std.specs.Prelude.{List, ℕ, zero, suc, ◌-◌, ◌*◌, ◌/◌, ◌%◌, Ok, Err}
 use Rattle.text.specs.Choose.{if_lt, if_le, if_eq}
 use Rattle.wire.specs.Heads.{bad_length, head_of}
-use Rattle.wire.specs.declared.Head.{Head}
-use Rattle.wire.specs.declared.Head.TheVariants.{Bad, Open}
-use Rattle.wire.specs.declared.Seen.{Seen}
-use Rattle.wire.specs.declared.Seen.TheVariants.{Read, Stop}
+use Rattle.wire.specs.Answers.{Head, Seen, refusal}
 
 abbrev pub too_deep : ℕ
 too_deep = 13
@@ -21,28 +18,28 @@ own_of tag known = if_eq (tag / 64) 2 (if_lt (tag % 32) known 1 0) 0
 -- An element by its first bytes: it stands too deep where no level is left, and a known part may not stand here. One with bit 32
 -- in its tag holds elements, a level deeper and none of them known; any other ends where its contents end.
 unfoldable pub enter : Head → ℕ → ℕ → ℕ → (ℕ → ℕ → ℕ → ℕ → Seen) → Seen
-enter (Bad n) at depth known held = Stop n at
-enter (Open tag body next) at depth known held =
-    if_eq depth 0 (Stop too_deep at)
-    (if_eq (own_of tag known) 1 (Stop not_ours at)
-    (if_eq (tag / 32 % 2) 1 (held body next (depth - 1) 0)
-    (Read next)))
+enter (Err n) at depth known held = Err (refusal n at)
+enter (Ok e) at depth known held =
+    if_eq depth 0 (Err (refusal too_deep at))
+    (if_eq (own_of e.tag known) 1 (Err (refusal not_ours at))
+    (if_eq (e.tag / 32 % 2) 1 (held e.body e.next (depth - 1) 0)
+    (Ok e.next)))
 
 -- what follows what was seen
 unfoldable pub follow : Seen → (ℕ → Seen) → Seen
-follow (Stop n place) rest = Stop n place
-follow (Read next) rest = rest next
+follow (Err r) rest = Err r
+follow (Ok next) rest = rest next
 
 -- k bounds how often the two call each other
 unfoldable mutual
   pub element_by : ℕ → List ℕ → ℕ → ℕ → ℕ → ℕ → Seen
-  element_by zero s at end depth known = Stop 0 at
+  element_by zero s at end depth known = Err (refusal 0 at)
   element_by (suc k) s at end depth known = enter (head_of s at end bad_length) at depth known (λ body next d n. sequence_by k s body next d n)
 
   pub sequence_by : ℕ → List ℕ → ℕ → ℕ → ℕ → ℕ → Seen
-  sequence_by zero s at end depth known = Stop 0 at
+  sequence_by zero s at end depth known = Err (refusal 0 at)
   sequence_by (suc k) s at end depth known =
-      if_le end at (Read at) (follow (element_by k s at end depth known) (λ next. sequence_by k s next end depth known))
+      if_le end at (Ok at) (follow (element_by k s at end depth known) (λ next. sequence_by k s next end depth known))
 
 -- an element has two bytes at least, so this many calls are enough
 unfoldable pub element_of : List ℕ → ℕ → ℕ → ℕ → ℕ → Seen

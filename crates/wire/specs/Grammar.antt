@@ -15,22 +15,19 @@
 --        result CALLED        : [80 01 bool: part 2, or 2+4] [81 number: part 16, calling]   [82 03 HH MM SS: part 64]
 --
 -- Every length may be longer than it need be. Assumes nothing.
-use Rattle.std.specs.Prelude.{List, ℕ, ◌+◌, ◌/◌, ◌%◌, length, take}
+use Rattle.std.specs.Prelude.{List, ℕ, ◌+◌, ◌/◌, ◌%◌, length, take, Ok, Err}
 use Rattle.text.specs.Choose.{if_eq}
 use Rattle.wire.specs.Bytes.{byte_at}
 use Rattle.wire.specs.Heads.{head_of}
 use Rattle.wire.specs.Elements.{not_ours}
 use Rattle.wire.specs.Cursors.{absent_of, inside_of, may_of, need_of, closed_of, checked_of, rest_of}
 use Rattle.wire.specs.Values.{listed_at, absent_number, party_of, there_of, clock_at, seconds_at, problem_tag}
-use Rattle.wire.specs.declared.Answer.{Answer}
-use Rattle.wire.specs.declared.Answer.TheVariants.{Refused, Read}
 use Rattle.wire.specs.declared.Component.{Component}
 use Rattle.wire.specs.declared.Cursor.{Cursor}
-use Rattle.wire.specs.declared.Head.{Head}
-use Rattle.wire.specs.declared.Head.TheVariants.{Bad, Open}
 use Rattle.wire.specs.declared.Last.{Last}
 use Rattle.wire.specs.declared.Number.{Number}
 use Rattle.wire.specs.declared.Said.{Said}
+use Rattle.wire.specs.Answers.{Answer, Head, refusal}
 
 abbrev pub cut_short : ℕ
 cut_short = 11
@@ -132,7 +129,7 @@ unfoldable pub bare_of : ℕ → ℕ → ℕ → Component
 bare_of k x i = record { kind = k; item = x; parts = 0; calling = absent_number; called = absent_number; duration = 0; id = i }
 
 unfoldable pub answer_of : Cursor → Component → Answer
-answer_of c m = if_eq c.number 0 (Read m c.at) (Refused c.number c.at)
+answer_of c m = if_eq c.number 0 (Ok (m, c.at)) (Err (refusal c.number c.at))
 
 -- { id [80 01 xx] op SEQ }
 unfoldable pub invoke_of : List ℕ → ℕ → ℕ → Answer
@@ -183,12 +180,12 @@ kind_of s place tag at =
     (if_eq tag 162 (result_of s at (length s))
     (if_eq tag 163 (error_of s at (length s))
     (if_eq tag 164 (reject_of s at (length s))
-    (Refused not_ours place))))
+    (Err (refusal not_ours place)))))
 
 -- 11 where the bytes end before it does; else it is read in its own bytes alone, so that what follows them cannot matter
 unfoldable pub whole_of : List ℕ → ℕ → Head → Answer
-whole_of s place (Bad n) = Refused n place
-whole_of s place (Open tag at next) = kind_of (take next s) place tag at
+whole_of s place (Err n) = Err (refusal n place)
+whole_of s place (Ok e) = kind_of (take e.next s) place e.tag e.body
 
 -- the component at a place
 unfoldable pub component_of : List ℕ → ℕ → Answer

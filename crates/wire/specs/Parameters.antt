@@ -1,17 +1,14 @@
 -- A whole parameter: 32 LL 91, then components, one after the other, to its end.
 -- Assumes nothing.
-use Rattle.std.specs.Prelude.{List, [], ◌∷◌, ℕ, zero, suc, ◌+◌, ◌-◌, ◌≤◌, length}
+use Rattle.std.specs.Prelude.{List, [], ◌∷◌, ℕ, zero, suc, ◌+◌, ◌-◌, ◌≤◌, length, Ok, Err}
 use Rattle.text.specs.Choose.{if_lt, if_le, if_eq}
 use Rattle.wire.specs.Bytes.{byte_at}
 use Rattle.wire.specs.Heads.{bad_length}
 use Rattle.wire.specs.Elements.{not_ours}
 use Rattle.wire.specs.Grammar.{cut_short, component_of}
-use Rattle.wire.specs.declared.Answer.{Answer}
-use Rattle.wire.specs.declared.Answer.TheVariants.{Read}
 use Rattle.wire.specs.declared.Component.{Component}
-use Rattle.wire.specs.declared.Frame.{Frame}
-use Rattle.wire.specs.declared.Whole.{Whole}
-use Rattle.wire.specs.declared.Whole.TheVariants.{Refused, Empty, One, Several}
+use Rattle.wire.specs.declared.Whole.TheVariants.{Empty, One, Several}
+use Rattle.wire.specs.Answers.{Answer, Frame, Told, refusal}
 
 -- what a parameter says: a refusal's number and place; or its components, in order
 pub data Parameter : Type 0 where
@@ -24,8 +21,8 @@ before c (refused n place) = refused n place
 before c (holds cs) = holds (c ∷ cs)
 
 unfoldable pub onward : Answer → (ℕ → Parameter) → Parameter
-onward (Answer.Refused n place) rest = refused n place
-onward (Read c next) rest = before c (rest next)
+onward (Err r) rest = refused r.number r.place
+onward (Ok (c, next)) rest = before c (rest next)
 
 -- the components from a place on; a component has two bytes at least, so k of as many as there are is enough
 unfoldable pub walk_by : ℕ → List ℕ → ℕ → Parameter
@@ -44,35 +41,35 @@ first = 3
 -- not 91.
 unfoldable pub framed_of : List ℕ → Frame
 framed_of s =
-    if_lt (length s) 2 (Frame.Bad cut_short 0)
-    (if_lt (length s) (2 + byte_at s 1) (Frame.Bad cut_short 0)
-    (if_lt (2 + byte_at s 1) (length s) (Frame.Bad bad_length 0)
-    (if_eq (byte_at s 1) 0 (Frame.Bad bad_length 0)
+    if_lt (length s) 2 (Err (refusal cut_short 0))
+    (if_lt (length s) (2 + byte_at s 1) (Err (refusal cut_short 0))
+    (if_lt (2 + byte_at s 1) (length s) (Err (refusal bad_length 0))
+    (if_eq (byte_at s 1) 0 (Err (refusal bad_length 0))
     (if_eq (byte_at s 0) 50
-    (if_eq (byte_at s 2) 145 Frame.Good (Frame.Bad not_ours 2))
-    (Frame.Bad not_ours 0)))))
+    (if_eq (byte_at s 2) 145 (Ok tt) (Err (refusal not_ours 2)))
+    (Err (refusal not_ours 0))))))
 
 -- where they are good: what the components say
 unfoldable pub held_in : Frame → Parameter → Parameter
-held_in (Frame.Bad n place) p = refused n place
-held_in Frame.Good p = p
+held_in (Err r) p = refused r.number r.place
+held_in (Ok u) p = p
 
 unfoldable pub parameter_of : List ℕ → Parameter
 parameter_of s = held_in (framed_of s) (walk_of s first)
 
 -- a refusal is at one of them; a parameter where they are good has 3 to 257, because its length is one byte
 abbrev pub Bounded : List ℕ → Frame → Type 0
-Bounded s (Frame.Bad n place) = place ≤ 2
-Bounded s Frame.Good = (3 ≤ length s) × (length s ≤ 257)
+Bounded s (Err r) = r.place ≤ 2
+Bounded s (Ok u) = (3 ≤ length s) × (length s ≤ 257)
 
 -- what the reader tells of it
-unfoldable pub told_of : Parameter → Whole
-told_of (refused n place) = Refused n place
-told_of (holds []) = Empty
-told_of (holds (c ∷ [])) = One c
-told_of (holds (c ∷ d ∷ cs)) = Several (length (c ∷ d ∷ cs))
+unfoldable pub told_of : Parameter → Told
+told_of (refused n place) = Err (refusal n place)
+told_of (holds []) = Ok Empty
+told_of (holds (c ∷ [])) = Ok (One c)
+told_of (holds (c ∷ d ∷ cs)) = Ok (Several (length (c ∷ d ∷ cs)))
 
 -- k components, and those that follow them
-unfoldable pub several_of : ℕ → Parameter → Whole
-several_of k (refused n place) = Refused n place
-several_of k (holds cs) = Several (k + length cs)
+unfoldable pub several_of : ℕ → Parameter → Told
+several_of k (refused n place) = Err (refusal n place)
+several_of k (holds cs) = Ok (Several (k + length cs))

@@ -1,18 +1,15 @@
 -- The usual form of a component: every length in one byte, and no element but the module's own, each in its place. Whatever is found to
 -- have it is what the grammar reads there (SaidAs, ReadAs; of a head, head_of itself); nothing is said of what is found to have another form.
 -- Assumes nothing.
-use Rattle.std.specs.Prelude.{◌≡◌, List, ℕ, ◌+◌, ◌-◌, ◌%◌, length}
+use Rattle.std.specs.Prelude.{◌≡◌, List, ℕ, ◌+◌, ◌-◌, ◌%◌, length, Some, None, Ok}
 use Rattle.text.specs.Choose.{if_lt, if_eq}
 use Rattle.wire.specs.Bytes.{byte_at}
 use Rattle.wire.specs.Cursors.{absent_of}
 use Rattle.wire.specs.Values.{listed_at, absent_number, party_of, there_of, clock_at, seconds_at}
 use Rattle.wire.specs.Grammar.{flag_part, first_part, party_part, made_of}
-use Rattle.wire.specs.declared.Answer.{Answer}
-use Rattle.wire.specs.declared.Answer.TheVariants.{Read}
 use Rattle.wire.specs.declared.Number.{Number}
-use Rattle.wire.specs.declared.Parted.{Parted}
-use Rattle.wire.specs.declared.Form.{Form}
 use Rattle.wire.specs.declared.Said.{Said}
+use Rattle.wire.specs.Answers.{Answer, Form, Parted}
 
 -- 1 where an element of this tag and size stands at i, all of it
 unfoldable pub begins_of : List ℕ → ℕ → ℕ → ℕ → ℕ
@@ -68,14 +65,14 @@ coded_at s i low high = if_eq (begins_of s i 6 7) 1 (listed_at s (i + 2) low hig
 
 -- the component whose SEQUENCE it is
 unfoldable pub carried_of : Parted → ℕ → ℕ → ℕ → Form
-carried_of Parted.Other k x i = Form.Other
-carried_of (Parted.Usual d) k x i = Form.Usual (made_of k x d i)
+carried_of None k x i = None
+carried_of (Some d) k x i = Some (made_of k x d i)
 
 -- what the grammar says of it
 abbrev pub SaidAs : List ℕ → Said → Parted → Type 0
-SaidAs s d Parted.Other = Unit {0}
-SaidAs s d (Parted.Usual x) = (d ≡ x) × (x.cursor ≡ absent_of (length s))
+SaidAs s d None = Unit {0}
+SaidAs s d (Some x) = (d ≡ x) × (x.cursor ≡ absent_of (length s))
 
 abbrev pub ReadAs : List ℕ → Answer → Form → Type 0
-ReadAs s a Form.Other = Unit {0}
-ReadAs s a (Form.Usual m) = a ≡ Read m (length s)
+ReadAs s a None = Unit {0}
+ReadAs s a (Some m) = a ≡ Ok (m, length s)

@@ -1,11 +1,10 @@
 -- What the contents of an element say: an operation or error, a number, a duration.
 -- Assumes nothing.
-use Rattle.std.specs.Prelude.{List, ℕ, zero, suc, ◌+◌, ◌-◌, ◌*◌, ◌/◌, ◌%◌, length}
+use Rattle.std.specs.Prelude.{List, ℕ, zero, suc, ◌+◌, ◌-◌, ◌*◌, ◌/◌, ◌%◌, length, Some, None}
 use Rattle.text.specs.Choose.{if_lt, if_eq}
 use Rattle.wire.specs.Bytes.{byte_at}
-use Rattle.wire.specs.declared.Digits.{Digits}
-use Rattle.wire.specs.declared.Digits.TheVariants.{Bad, Value}
 use Rattle.wire.specs.declared.Number.{Number}
+use Rattle.wire.specs.Answers.{Digits}
 
 -- ---- operations and errors: 00 11 85 60 03 01 NN is 0.0.17.736.3.1.NN
 
@@ -25,15 +24,15 @@ listed_at s i low high = listed_of (module_at s i) (byte_at s (i + 6)) low high
 -- ---- numbers: [odd * 128 + nature] [1x] digits, two in a byte, the first in the low half
 
 unfoldable pub paired_of : ℕ → ℕ → Digits
-paired_of v b = if_lt 9 (b % 16) Bad (if_lt 9 (b / 16) Bad (Value (v * 100 + (b % 16 * 10 + b / 16))))
+paired_of v b = if_lt 9 (b % 16) None (if_lt 9 (b / 16) None (Some (v * 100 + (b % 16 * 10 + b / 16))))
 
 unfoldable pub pair_on : Digits → ℕ → Digits
-pair_on Bad b = Bad
-pair_on (Value v) b = paired_of v b
+pair_on None b = None
+pair_on (Some v) b = paired_of v b
 
 -- the digits in m bytes, which stand two bytes after i
 unfoldable pub pairs_at : List ℕ → ℕ → ℕ → Digits
-pairs_at s i zero = Value 0
+pairs_at s i zero = Some 0
 pairs_at s i (suc k) = pair_on (pairs_at s i k) (byte_at s (i + (2 + k)))
 
 abbrev pub absent_number : Number
@@ -57,8 +56,8 @@ natured_of m first second v =
     absent_number
 
 unfoldable pub digited_of : ℕ → ℕ → ℕ → Digits → Number
-digited_of m first second Bad = absent_number
-digited_of m first second (Value v) = natured_of m first second v
+digited_of m first second None = absent_number
+digited_of m first second (Some v) = natured_of m first second v
 
 unfoldable pub party_by : List ℕ → ℕ → ℕ → Number
 party_by s i m = if_lt 8 m absent_number (digited_of m (byte_at s i) (byte_at s (i + 1)) (pairs_at s i m))

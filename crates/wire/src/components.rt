@@ -7,7 +7,7 @@ use crate::bytes::{byte, byte_past};
 use crate::cursors::{absent, checked, closed, inside, may, need, rest};
 use crate::elements::NOT_OURS;
 use crate::values::{ABSENT, clock, listed, party, problem_tag, seconds, there};
-use crate::{Answer, Component, Cursor, Form, Head, Last, Number, Said, quick};
+use crate::{Component, Cursor, Last, Number, Refusal, Said, quick};
 
 const ANY: usize = 18446744073709551615;
 
@@ -218,17 +218,20 @@ pub(crate) fn bare(kind: u8, item: u8, id: u16) -> Component
     }
 }
 
-fn answer(c: Cursor, m: Component) -> Answer
+fn answer(c: Cursor, m: Component) -> Result<(Component, usize), Refusal>
     ensures { result ≡ answer_of c m }
 {
     if c.number == 0 {
-        return Answer::Read(m, c.at);
+        return Ok((m, c.at));
     }
-    Answer::Refused(c.number, c.at)
+    Err(Refusal {
+        number: c.number,
+        place: c.at,
+    })
 }
 
 // A1 len { id [80 01 xx] op SEQ }
-fn invoke(s: &[u8], at: usize, end: usize) -> Answer
+fn invoke(s: &[u8], at: usize, end: usize) -> Result<(Component, usize), Refusal>
     ensures { result ≡ invoke_of s.now at end }
 {
     let i = need(s, absent(at), end, 2, 1, 1);
@@ -243,7 +246,7 @@ fn invoke(s: &[u8], at: usize, end: usize) -> Answer
 }
 
 // A2 len { id 30 len { op SEQ } }
-fn result(s: &[u8], at: usize, end: usize) -> Answer
+fn result(s: &[u8], at: usize, end: usize) -> Result<(Component, usize), Refusal>
     ensures { result ≡ result_of s.now at end }
 {
     let i = need(s, absent(at), end, 2, 1, 1);
@@ -259,7 +262,7 @@ fn result(s: &[u8], at: usize, end: usize) -> Answer
 }
 
 // A3 len { id err }
-fn error(s: &[u8], at: usize, end: usize) -> Answer
+fn error(s: &[u8], at: usize, end: usize) -> Result<(Component, usize), Refusal>
     ensures { result ≡ error_of s.now at end }
 {
     let i = need(s, absent(at), end, 2, 1, 1);
@@ -288,7 +291,7 @@ fn name(n: Cursor, b: u8) -> u16
 }
 
 // A4 len { id|05 00  8p 01 xx }
-fn reject(s: &[u8], at: usize, end: usize) -> Answer
+fn reject(s: &[u8], at: usize, end: usize) -> Result<(Component, usize), Refusal>
     ensures { result ≡ reject_of s.now at end }
 {
     let n = may(s, absent(at), end, 5, 0, 0);
@@ -299,38 +302,35 @@ fn reject(s: &[u8], at: usize, end: usize) -> Answer
 }
 
 // Each first in the usual form.
-fn read_invoke(s: &[u8], at: usize) -> Answer
+fn read_invoke(s: &[u8], at: usize) -> Result<(Component, usize), Refusal>
     ensures { result ≡ invoke_of s.now at (length s.now) }
 {
-    let q = quick::invoke(s, at);
-    match q {
-        Form::Usual(m) => Answer::Read(m, s.len()),
-        Form::Other => invoke(s, at, s.len()),
+    match quick::invoke(s, at) {
+        Some(m) => Ok((m, s.len())),
+        None => invoke(s, at, s.len()),
     }
 }
 
-fn read_result(s: &[u8], at: usize) -> Answer
+fn read_result(s: &[u8], at: usize) -> Result<(Component, usize), Refusal>
     ensures { result ≡ result_of s.now at (length s.now) }
 {
-    let q = quick::result(s, at);
-    match q {
-        Form::Usual(m) => Answer::Read(m, s.len()),
-        Form::Other => result(s, at, s.len()),
+    match quick::result(s, at) {
+        Some(m) => Ok((m, s.len())),
+        None => result(s, at, s.len()),
     }
 }
 
-fn read_error(s: &[u8], at: usize) -> Answer
+fn read_error(s: &[u8], at: usize) -> Result<(Component, usize), Refusal>
     ensures { result ≡ error_of s.now at (length s.now) }
 {
-    let q = quick::error(s, at);
-    match q {
-        Form::Usual(m) => Answer::Read(m, s.len()),
-        Form::Other => error(s, at, s.len()),
+    match quick::error(s, at) {
+        Some(m) => Ok((m, s.len())),
+        None => error(s, at, s.len()),
     }
 }
 
 // The component that fills the bytes up to their end, from its contents on.
-fn by_kind(s: &[u8], place: usize, tag: u8, at: usize) -> Answer
+fn by_kind(s: &[u8], place: usize, tag: u8, at: usize) -> Result<(Component, usize), Refusal>
     ensures { result ≡ kind_of s.now place tag at }
 {
     if tag == 161 {
@@ -345,16 +345,18 @@ fn by_kind(s: &[u8], place: usize, tag: u8, at: usize) -> Answer
     if tag == 164 {
         return reject(s, at, s.len());
     }
-    Answer::Refused(NOT_OURS, place)
+    Err(Refusal {
+        number: NOT_OURS,
+        place,
+    })
 }
 
 // The component at a place. What follows it is not looked at.
-pub fn read_component(s: &[u8], at: usize) -> Answer
+pub fn read_component(s: &[u8], at: usize) -> Result<(Component, usize), Refusal>
     ensures { result ≡ component_of s.now at }
 {
-    let h = quick::opening(s, at);
-    match h {
-        Head::Bad(n) => Answer::Refused(n, at),
-        Head::Open(tag, inner, next) => by_kind(&s[..next], at, tag, inner),
+    match quick::opening(s, at) {
+        Err(number) => Err(Refusal { number, place: at }),
+        Ok(e) => by_kind(&s[..e.next], at, e.tag, e.body),
     }
 }

@@ -5,7 +5,7 @@ ghost use Rattle.wire.specs.Cursors.{stopped_of, absent_of, opened_of, inside_of
 use crate::bytes::{byte, minus};
 use crate::elements::{NOT_OURS, sequence};
 use crate::heads::{BAD_LENGTH, head};
-use crate::{Cursor, Head, Seen};
+use crate::{Cursor, Element, Refusal};
 
 pub fn stopped(number: u8, place: usize) -> Cursor
     ensures { result ≡ stopped_of number place }
@@ -61,14 +61,14 @@ fn sized(at: usize, body: usize, next: usize, least: usize, most: usize) -> Curs
     opened(body, next)
 }
 
-fn look(h: Head, at: usize, tag: u8, least: usize, most: usize) -> Cursor
+fn look(h: Result<Element, u8>, at: usize, tag: u8, least: usize, most: usize) -> Cursor
     ensures { result ≡ look_of h at tag least most }
 {
     match h {
-        Head::Bad(n) => stopped(n, at),
-        Head::Open(t, body, next) => {
-            if t == tag {
-                return sized(at, body, next, least, most);
+        Err(n) => stopped(n, at),
+        Ok(e) => {
+            if e.tag == tag {
+                return sized(at, e.body, e.next, least, most);
             }
             stopped(NOT_OURS, at)
         }
@@ -104,12 +104,12 @@ pub fn may(s: &[u8], c: Cursor, end: usize, tag: u8, least: usize, most: usize) 
     c
 }
 
-fn extra(h: Head, at: usize) -> Cursor
+fn extra(h: Result<Element, u8>, at: usize) -> Cursor
     ensures { result ≡ extra_of h at }
 {
     match h {
-        Head::Bad(n) => stopped(n, at),
-        Head::Open(_, _, _) => stopped(NOT_OURS, at),
+        Err(n) => stopped(n, at),
+        Ok(_) => stopped(NOT_OURS, at),
     }
 }
 
@@ -139,12 +139,12 @@ pub fn checked(ok: u8, from: usize, c: Cursor) -> Cursor
     stopped(NOT_OURS, from)
 }
 
-fn seen(e: Seen) -> Cursor
+fn seen(e: Result<usize, Refusal>) -> Cursor
     ensures { result ≡ seen_of e }
 {
     match e {
-        Seen::Read(next) => absent(next),
-        Seen::Stop(n, place) => stopped(n, place),
+        Ok(next) => absent(next),
+        Err(r) => stopped(r.number, r.place),
     }
 }
 

@@ -3,8 +3,8 @@
 ghost use Rattle.std.specs.Prelude.{◌≡◌};
 ghost use Rattle.wire.specs.Elements.{own_of, element_of, sequence_of};
 
+use crate::Refusal;
 use crate::heads::{BAD_LENGTH, head};
-use crate::{Head, Seen};
 
 pub const TOO_DEEP: u8 = 13;
 
@@ -25,39 +25,40 @@ fn own(tag: u8, known: u8) -> u8
 
 // The element at a place, all of it before `end`, with what it holds.
 #[cycle(element_sequence)]
-pub fn element(s: &[u8], at: usize, end: usize, depth: u8, known: u8) -> Seen
+pub fn element(s: &[u8], at: usize, end: usize, depth: u8, known: u8) -> Result<usize, Refusal>
     ensures { result ≡ element_of s.now at end depth known }
 {
-    let h = head(s, at, end, BAD_LENGTH);
-    match h {
-        Head::Bad(n) => Seen::Stop(n, at),
-        Head::Open(tag, body, next) => {
+    match head(s, at, end, BAD_LENGTH) {
+        Err(number) => Err(Refusal { number, place: at }),
+        Ok(e) => {
             if depth == 0 {
-                return Seen::Stop(TOO_DEEP, at);
+                return Err(Refusal {
+                    number: TOO_DEEP,
+                    place: at,
+                });
             }
-            if own(tag, known) == 1 {
-                return Seen::Stop(NOT_OURS, at);
+            if own(e.tag, known) == 1 {
+                return Err(Refusal {
+                    number: NOT_OURS,
+                    place: at,
+                });
             }
-            if tag / 32 % 2 == 1 {
-                return sequence(s, body, next, depth - 1, 0);
+            if e.tag / 32 % 2 == 1 {
+                return sequence(s, e.body, e.next, depth - 1, 0);
             }
-            Seen::Read(next)
+            Ok(e.next)
         }
     }
 }
 
 // The elements from a place up to `end`, one after the other.
 #[cycle(element_sequence)]
-pub fn sequence(s: &[u8], at: usize, end: usize, depth: u8, known: u8) -> Seen
+pub fn sequence(s: &[u8], at: usize, end: usize, depth: u8, known: u8) -> Result<usize, Refusal>
     ensures { result ≡ sequence_of s.now at end depth known }
 {
     let mut place = at;
     while place < end {
-        let e = element(s, place, end, depth, known);
-        match e {
-            Seen::Stop(n, met) => return Seen::Stop(n, met),
-            Seen::Read(next) => place = next,
-        }
+        place = element(s, place, end, depth, known)?;
     }
-    Seen::Read(place)
+    Ok(place)
 }

@@ -3,7 +3,7 @@
 ghost use Rattle.std.specs.Prelude.{◌≡◌, ◌≤◌, ◌<◌};
 ghost use Rattle.wire.specs.Heads.{tag_after, filled_of, length_of, head_from, head_of};
 
-use crate::Head;
+use crate::Element;
 use crate::bytes::{big, byte, wide};
 
 pub const CUT_SHORT: u8 = 11;
@@ -25,18 +25,29 @@ fn tag_after(s: &[u8], i: usize, end: usize) -> usize
 }
 
 // The contents begin at `body` and have `len` bytes; none may stand past `end`.
-fn filled(tag: u8, body: usize, end: usize, len: usize, short: u8) -> Head
+fn filled(tag: u8, body: usize, end: usize, len: usize, short: u8) -> Result<Element, u8>
     requires { body ≤ end }
     ensures { result ≡ filled_of tag body end len short }
 {
     if end - body < len {
-        return Head::Bad(short);
+        return Err(short);
     }
-    Head::Open(tag, body, body + len)
+    Ok(Element {
+        tag,
+        body,
+        next: body + len,
+    })
 }
 
 // By the first byte of the length, which stands before `after`.
-fn measured(s: &[u8], tag: u8, first: usize, after: usize, end: usize, short: u8) -> Head
+fn measured(
+    s: &[u8],
+    tag: u8,
+    first: usize,
+    after: usize,
+    end: usize,
+    short: u8,
+) -> Result<Element, u8>
     requires { (first < 256) × (1 ≤ after) × (after ≤ end) }
     ensures { result ≡ length_of s.now tag first after end short }
 {
@@ -44,33 +55,33 @@ fn measured(s: &[u8], tag: u8, first: usize, after: usize, end: usize, short: u8
         return filled(tag, after, end, first, short);
     }
     if first == 128 {
-        return Head::Bad(BAD_LENGTH);
+        return Err(BAD_LENGTH);
     }
     if first == 255 {
-        return Head::Bad(BAD_LENGTH);
+        return Err(BAD_LENGTH);
     }
     let k = first - 128;
     if end - after < k {
-        return Head::Bad(short);
+        return Err(short);
     }
     filled(tag, after + k, end, big(s, after, k), short)
 }
 
 // With the length at `place`.
-fn headed(s: &[u8], tag: u8, place: usize, end: usize, short: u8) -> Head
+fn headed(s: &[u8], tag: u8, place: usize, end: usize, short: u8) -> Result<Element, u8>
     ensures { result ≡ head_from s.now tag place end short }
 {
     if end <= place {
-        return Head::Bad(short);
+        return Err(short);
     }
     measured(s, tag, wide(byte(s, place)), place + 1, end, short)
 }
 
-pub fn head(s: &[u8], at: usize, end: usize, short: u8) -> Head
+pub fn head(s: &[u8], at: usize, end: usize, short: u8) -> Result<Element, u8>
     ensures { result ≡ head_of s.now at end short }
 {
     if end <= at {
-        return Head::Bad(short);
+        return Err(short);
     }
     let tag = byte(s, at);
     // a tag of several bytes has all ones in the low five bits of its first

@@ -22,18 +22,19 @@ pub use parameters::{framed, read_parameter};
 pub use writable::bad_field;
 pub use writer::{write_component, write_parameter};
 
-// An element's first bytes: the number at which reading stops; or its tag, where its contents begin, and the place after them.
-#[derive(Clone, Copy)]
-pub enum Head {
-    Bad(u8),
-    Open(u8, usize, usize),
+// A refusal's number, 11 to 14 of 01, and where it was met.
+#[derive(Clone, Copy, PartialEq, Eq)]
+pub struct Refusal {
+    pub number: u8,
+    pub place: usize,
 }
 
-// What was seen from a place on: the place after it; or a refusal's number, and where it was met.
+// An element by its first bytes: its tag, where its contents begin, and the place after them.
 #[derive(Clone, Copy)]
-pub enum Seen {
-    Read(usize),
-    Stop(u8, usize),
+pub struct Element {
+    pub tag: u8,
+    pub body: usize,
+    pub next: usize,
 }
 
 // Where a reader is. number: 0, or the refusal that stopped it, at the place `at`; nothing moves it then. at: the place of the next element.
@@ -43,13 +44,6 @@ pub struct Cursor {
     pub number: u8,
     pub at: usize,
     pub body: usize,
-}
-
-// Digits, two in a byte: one above 9, or their value.
-#[derive(Clone, Copy)]
-pub enum Digits {
-    Bad,
-    Value(u64),
 }
 
 // A telephone number as a record of 01 has it: the count of its digits, 128 more for an international one, and its value. Absent: 0 and 0.
@@ -88,38 +82,9 @@ pub struct Said {
     pub duration: u32,
 }
 
-// What a SEQUENCE in the usual form says; or it has another form.
-#[derive(Clone, Copy)]
-pub enum Parted {
-    Other,
-    Usual(Said),
-}
-
-// A component in the usual form; or it has another form.
-#[derive(Clone, Copy)]
-pub enum Form {
-    Other,
-    Usual(Component),
-}
-
-// A component and the place after it; or a refusal's number and place.
-#[derive(Clone, Copy)]
-pub enum Answer {
-    Refused(u8, usize),
-    Read(Component, usize),
-}
-
-// A parameter's own three bytes: refused, with number and place; or good.
-#[derive(Clone, Copy)]
-pub enum Frame {
-    Bad(u8, usize),
-    Good,
-}
-
-// What a parameter is: refused, with number and place; of no component; of one; or of several, which read_component reads from place 3 on.
+// What a parameter holds: no component; one; or several, which read_component reads from place 3 on.
 #[derive(Clone, Copy)]
 pub enum Whole {
-    Refused(u8, usize),
     Empty,
     One(Component),
     Several(usize),

@@ -6,84 +6,90 @@ use crate::bytes::wide;
 use crate::components::read_component;
 use crate::elements::NOT_OURS;
 use crate::heads::{BAD_LENGTH, CUT_SHORT};
-use crate::{Answer, Component, Frame, Whole};
+use crate::{Component, Refusal, Whole};
 
 // The components from a place on, after one.
-fn several(s: &[u8], at: usize) -> Whole
+fn several(s: &[u8], at: usize) -> Result<Whole, Refusal>
     requires { at < length s.now }
     ensures { result ≡ several_of 1 (walk_of s.now at) }
 {
     let mut place = at;
     let mut count = 1;
     while place < s.len() {
-        let a = read_component(s, place);
-        match a {
-            Answer::Refused(n, met) => return Whole::Refused(n, met),
-            Answer::Read(_, next) => {
-                place = next;
-                count += 1;
-            }
-        }
+        place = read_component(s, place)?.1;
+        count += 1;
     }
-    Whole::Several(count)
+    Ok(Whole::Several(count))
 }
 
 // The usual parameter has one component, which needs no second look.
-fn one_or_more(s: &[u8], c: Component, next: usize) -> Whole
+fn one_or_more(s: &[u8], c: Component, next: usize) -> Result<Whole, Refusal>
     ensures { result ≡ told_of (before c (walk_of s.now next)) }
 {
     if s.len() <= next {
-        return Whole::One(c);
+        return Ok(Whole::One(c));
     }
     several(s, next)
 }
 
-fn components(s: &[u8], at: usize) -> Whole
+fn components(s: &[u8], at: usize) -> Result<Whole, Refusal>
     ensures { result ≡ told_of (walk_of s.now at) }
 {
     if s.len() <= at {
-        return Whole::Empty;
+        return Ok(Whole::Empty);
     }
-    let a = read_component(s, at);
-    match a {
-        Answer::Refused(n, place) => Whole::Refused(n, place),
-        Answer::Read(c, next) => one_or_more(s, c, next),
-    }
+    let (c, next) = read_component(s, at)?;
+    one_or_more(s, c, next)
 }
 
 // A parameter's own three bytes. Its components begin at place 3.
-pub fn framed(s: &[u8]) -> Frame
+pub fn framed(s: &[u8]) -> Result<(), Refusal>
     ensures { (result ≡ framed_of s.now) × Bounded s.now result }
 {
     if s.len() < 2 {
-        return Frame::Bad(CUT_SHORT, 0);
+        return Err(Refusal {
+            number: CUT_SHORT,
+            place: 0,
+        });
     }
     let said = 2 + wide(s[1]);
     if s.len() < said {
-        return Frame::Bad(CUT_SHORT, 0);
+        return Err(Refusal {
+            number: CUT_SHORT,
+            place: 0,
+        });
     }
     if said < s.len() {
-        return Frame::Bad(BAD_LENGTH, 0);
+        return Err(Refusal {
+            number: BAD_LENGTH,
+            place: 0,
+        });
     }
     if said == 2 {
-        return Frame::Bad(BAD_LENGTH, 0);
+        return Err(Refusal {
+            number: BAD_LENGTH,
+            place: 0,
+        });
     }
     if s[0] != 50 {
-        return Frame::Bad(NOT_OURS, 0);
+        return Err(Refusal {
+            number: NOT_OURS,
+            place: 0,
+        });
     }
     if s[2] != 145 {
-        return Frame::Bad(NOT_OURS, 2);
+        return Err(Refusal {
+            number: NOT_OURS,
+            place: 2,
+        });
     }
-    Frame::Good
+    Ok(())
 }
 
 // A whole parameter. Its own three bytes first, then its components.
-pub fn read_parameter(s: &[u8]) -> Whole
+pub fn read_parameter(s: &[u8]) -> Result<Whole, Refusal>
     ensures { result ≡ told_of (parameter_of s.now) }
 {
-    let f = framed(s);
-    match f {
-        Frame::Bad(n, place) => Whole::Refused(n, place),
-        Frame::Good => components(s, 3),
-    }
+    framed(s)?;
+    components(s, 3)
 }

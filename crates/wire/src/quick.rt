@@ -11,7 +11,7 @@ use crate::components::{bare, first_part, flag_part, made, party_part, wide16};
 use crate::cursors::absent;
 use crate::heads::{CUT_SHORT, head};
 use crate::values::{ABSENT, clock, listed, party, seconds, there};
-use crate::{Form, Head, Number, Parted, Said};
+use crate::{Component, Element, Number, Said};
 
 // 1 where an element of this tag and size stands, all of it.
 fn begins(s: &[u8], i: usize, tag: u8, size: usize) -> u8
@@ -52,12 +52,16 @@ fn short(s: &[u8], at: usize) -> usize
 }
 
 // The head of the component at a place.
-pub fn opening(s: &[u8], at: usize) -> Head
+pub fn opening(s: &[u8], at: usize) -> Result<Element, u8>
     ensures { result ≡ head_of s.now at (length s.now) cut_short }
 {
     let size = short(s, at);
     if size < 128 {
-        return Head::Open(byte(s, at), at + 2, at + 2 + size);
+        return Ok(Element {
+            tag: byte(s, at),
+            body: at + 2,
+            next: at + 2 + size,
+        });
     }
     head(s, at, s.len(), CUT_SHORT)
 }
@@ -172,32 +176,32 @@ fn number_ok(size: usize, n: Number) -> u8
 }
 
 // The elements of a SEQUENCE, from i to the end.
-fn parts(s: &[u8], i: usize, kind: u8, item: u8) -> Parted
+fn parts(s: &[u8], i: usize, kind: u8, item: u8) -> Option<Said>
     ensures { SaidAs s.now (parts_of s.now (absent_of i) (length s.now) kind item) result }
 {
     let f = after(s, i, 128, 1);
     let e = number_after(s, f);
     let z = last_after(s, e, kind, item);
     if z != s.len() {
-        return Parted::Other;
+        return None;
     }
     let n = number_at(s, f, e);
     if number_ok(minus(e, f), n) != 1 {
-        return Parted::Other;
+        return None;
     }
     if last_ok(s, e, z, kind) != 1 {
-        return Parted::Other;
+        return None;
     }
-    Parted::Usual(said(s, i, f, e, n, kind, item))
+    Some(said(s, i, f, e, n, kind, item))
 }
 
 // The component whose SEQUENCE it is.
-fn carried(p: Parted, kind: u8, item: u8, id: u16) -> Form
+fn carried(p: Option<Said>, kind: u8, item: u8, id: u16) -> Option<Component>
     ensures { result ≡ carried_of p kind item id }
 {
     match p {
-        Parted::Other => Form::Other,
-        Parted::Usual(d) => Form::Usual(made(kind, item, d, id)),
+        None => None,
+        Some(d) => Some(made(kind, item, d, id)),
     }
 }
 
@@ -213,27 +217,27 @@ fn coded(s: &[u8], i: usize, low: u8, high: u8) -> u8
 }
 
 // { id op SEQ }
-pub fn invoke(s: &[u8], at: usize) -> Form
+pub fn invoke(s: &[u8], at: usize) -> Option<Component>
     ensures { ReadAs s.now (invoke_of s.now at (length s.now)) result }
 {
     if s.len() < 14 {
-        return Form::Other;
+        return None;
     }
     if s.len() - 14 < at {
-        return Form::Other;
+        return None;
     }
     let size = s.len() - 14 - at;
     if 127 < size {
-        return Form::Other;
+        return None;
     }
     if begins(s, at, 2, 1) != 1 {
-        return Form::Other;
+        return None;
     }
     if coded(s, at + 3, 1, 3) != 1 {
-        return Form::Other;
+        return None;
     }
     if begins(s, at + 12, 48, size) != 1 {
-        return Form::Other;
+        return None;
     }
     let item = s[at + 11];
     let id = wide16(s[at + 2]);
@@ -241,30 +245,30 @@ pub fn invoke(s: &[u8], at: usize) -> Form
 }
 
 // { id 30 len { op SEQ } }
-pub fn result(s: &[u8], at: usize) -> Form
+pub fn result(s: &[u8], at: usize) -> Option<Component>
     ensures { ReadAs s.now (result_of s.now at (length s.now)) result }
 {
     if s.len() < 16 {
-        return Form::Other;
+        return None;
     }
     if s.len() - 16 < at {
-        return Form::Other;
+        return None;
     }
     let size = s.len() - 16 - at;
     if 116 < size {
-        return Form::Other;
+        return None;
     }
     if begins(s, at, 2, 1) != 1 {
-        return Form::Other;
+        return None;
     }
     if begins(s, at + 3, 48, size + 11) != 1 {
-        return Form::Other;
+        return None;
     }
     if coded(s, at + 5, 1, 3) != 1 {
-        return Form::Other;
+        return None;
     }
     if begins(s, at + 14, 48, size) != 1 {
-        return Form::Other;
+        return None;
     }
     let item = s[at + 13];
     let id = wide16(s[at + 2]);
@@ -272,20 +276,20 @@ pub fn result(s: &[u8], at: usize) -> Form
 }
 
 // { id err }
-pub fn error(s: &[u8], at: usize) -> Form
+pub fn error(s: &[u8], at: usize) -> Option<Component>
     ensures { ReadAs s.now (error_of s.now at (length s.now)) result }
 {
     if s.len() < 12 {
-        return Form::Other;
+        return None;
     }
     if s.len() - 12 != at {
-        return Form::Other;
+        return None;
     }
     if begins(s, at, 2, 1) != 1 {
-        return Form::Other;
+        return None;
     }
     if coded(s, at + 3, 4, 12) != 1 {
-        return Form::Other;
+        return None;
     }
-    Form::Usual(bare(3, s[at + 11], wide16(s[at + 2])))
+    Some(bare(3, s[at + 11], wide16(s[at + 2])))
 }

@@ -2,8 +2,8 @@
 ghost use Rattle.std.specs.Prelude.{◌≡◌, ◌+◌, ◌*◌, ◌≤◌, ◌<◌, ◌^◌, length};
 ghost use Rattle.wire.specs.Values.{module_by, module_at, listed_of, listed_at, paired_of, pairs_at, counted_of, natured_of, digited_of, party_by, party_of, there_of, clock_of, seconds_at, clock_at, problem_tag};
 
+use crate::Number;
 use crate::bytes::{byte, byte_past};
-use crate::{Digits, Number};
 
 pub const ABSENT: Number = Number { count: 0, value: 0 };
 
@@ -85,35 +85,31 @@ pub fn listed(s: &[u8], i: usize, low: u8, high: u8) -> u8
 // ---- numbers
 
 // Two more digits, the first in the low half.
-fn paired(v: u64, b: u8) -> Digits
+fn paired(v: u64, b: u8) -> Option<u64>
     requires { v < 10 ^ 16 }
     ensures { result ≡ paired_of v b }
 {
     if 9 < b % 16 {
-        return Digits::Bad;
+        return None;
     }
     if 9 < b / 16 {
-        return Digits::Bad;
+        return None;
     }
-    Digits::Value(v * 100 + wide64(b % 16 * 10 + b / 16))
+    Some(v * 100 + wide64(b % 16 * 10 + b / 16))
 }
 
 // The digits of a number's last m bytes, which are all there.
-fn pairs(s: &[u8], i: usize, m: usize) -> Digits
+fn pairs(s: &[u8], i: usize, m: usize) -> Option<u64>
     requires { (m ≤ 8) × (i + (2 + m) ≤ length s.now) }
     ensures { result ≡ pairs_at s.now i m }
 {
     let mut v = 0;
     let mut j = 0;
     while j < m {
-        let d = paired(v, s[i + (2 + j)]);
-        match d {
-            Digits::Bad => return Digits::Bad,
-            Digits::Value(w) => v = w,
-        }
+        v = paired(v, s[i + (2 + j)])?;
         j += 1;
     }
-    Digits::Value(v)
+    Some(v)
 }
 
 fn counted(m: u8, odd: u8, nature: u8, v: u64) -> Number
@@ -157,13 +153,13 @@ fn natured(m: u8, first: u8, second: u8, v: u64) -> Number
     ABSENT
 }
 
-fn digited(m: u8, first: u8, second: u8, d: Digits) -> Number
+fn digited(m: u8, first: u8, second: u8, d: Option<u64>) -> Number
     requires { m ≤ 8 }
     ensures { result ≡ digited_of m first second d }
 {
     match d {
-        Digits::Bad => ABSENT,
-        Digits::Value(v) => natured(m, first, second, v),
+        None => ABSENT,
+        Some(v) => natured(m, first, second, v),
     }
 }
 

@@ -7,15 +7,16 @@ use Rattle.wire.specs.Grammar.{component_of}
 use Rattle.wire.specs.Texts.{component_text, written_of, leaves_of}
 use Rattle.wire.specs.Writable.{bad_of}
 use Rattle.wire.specs.Parameters.{Parameter, refused, holds, before, onward, walk_of, framed_of, held_in, parameter_of, told_of}
-use Rattle.wire.specs.declared.Answer.{Answer}
 use Rattle.wire.specs.declared.Component.{Component}
-use Rattle.wire.specs.declared.Frame.{Frame}
 use Rattle.wire.specs.declared.Whole.{Whole}
 use Rattle.wire.specs.declared.Written.{Written}
 use Rattle.wire.proofs.Walks.{read_on, walk_end, walk_on}
 use Rattle.wireline.specs.Answers.{refused_text, read_text, answer_text, own_line, lines_text, Held, walk_text, parameter_text}
 use Rattle.wireline.specs.Guess.{Right, WrittenAs}
 use Rattle.wireline.specs.declared.Parsed.{Parsed}
+use Rattle.wire.specs.declared.Refusal.{Refusal}
+use Rattle.wire.specs.Answers.{Answer, Frame, Told, refusal}
+use Rattle.std.specs.Prelude.{Ok, Err}
 
 -- ---- a line's component, written
 
@@ -31,13 +32,13 @@ module _ (s l₀ l₁ : List ℕ) (j : ℕ) (a : Answer) (e : a ≡ component_of
   answer_by_lem : (b : Answer) → a ≡ b → Put l₀ 0 (answer_text b) l₁ j → Put l₀ 0 (answer_text (component_of s 0)) l₁ j
   answer_by_lem b f p = put_as (ap answer_text (sym f ∙ e)) p
 
-  pub answer_refused : (n place : ℕ) → a ≡ Answer.Refused n place → Put l₀ 0 (refused_text n place) l₁ j
+  pub answer_refused : (r : Refusal) → a ≡ Err r → Put l₀ 0 (refused_text r.number r.place) l₁ j
       → Put l₀ 0 (answer_text (component_of s 0)) l₁ j
-  answer_refused n place f p = answer_by_lem (Answer.Refused n place) f p
+  answer_refused r f p = answer_by_lem (Err r) f p
 
-  pub answer_read : (c : Component) (next : ℕ) → a ≡ Answer.Read c next → Put l₀ 0 (read_text c next) l₁ j
+  pub answer_read : (c : Component) (next : ℕ) → a ≡ Ok (c, next) → Put l₀ 0 (read_text c next) l₁ j
       → Put l₀ 0 (answer_text (component_of s 0)) l₁ j
-  answer_read c next f p = answer_by_lem (Answer.Read c next) f p
+  answer_read c next f p = answer_by_lem (Ok (c, next)) f p
 
 -- ---- a parameter that is held, and what follows its first component
 
@@ -89,14 +90,14 @@ module _ (s old new : List ℕ) (to place : ℕ) (t : Telling s old new to place
     on : onward a (walk_of s) ≡ holds t.left
     on = ap (λ (x : Answer). onward x (walk_of s)) e ∙ sym (walk_on s place h) ∙ t.walk
 
-    pub telling_never : {A : Type 0} (n met : ℕ) → a ≡ Answer.Refused n met → A
+    pub telling_never : {A : Type 0} (n met : ℕ) → a ≡ Err (refusal n met) → A
     unfolding onward
     telling_never n met f = never n met t.left (ap (λ (x : Answer). onward x (walk_of s)) (sym f) ∙ on)
 
-    pub telling_refused : (n met : ℕ) → a ≡ Answer.Refused n met → Put old 0 (walk_text (walk_of s 3)) new to
-    telling_refused n met f = telling_never n met f
+    pub telling_refused : (r : Refusal) → a ≡ Err r → Put old 0 (walk_text (walk_of s 3)) new to
+    telling_refused r f = telling_never r.number r.place f
 
-    module _ (c : Component) (after : ℕ) (f : a ≡ Answer.Read c after) where
+    module _ (c : Component) (after : ℕ) (f : a ≡ Ok (c, after)) where
       pub telling_less : length s - after < length s - place
       telling_less = let l = read_on s place after c a e f in omega arith
 
@@ -120,11 +121,11 @@ module _ (s old new : List ℕ) (to place : ℕ) (t : Telling s old new to place
 -- ---- a parameter, by what its reader told
 
 -- what is said by what is told: l is what is said of several components
-abbrev by_told : List ℕ → Whole → List ℕ
-by_told l (Whole.Refused n place) = refused_text n place
-by_told l Whole.Empty = ascii "NONE\n"
-by_told l (Whole.One c) = own_line c
-by_told l (Whole.Several k) = l
+abbrev by_told : List ℕ → Told → List ℕ
+by_told l (Err stop) = refused_text stop.number stop.place
+by_told l (Ok Whole.Empty) = ascii "NONE\n"
+by_told l (Ok (Whole.One c)) = own_line c
+by_told l (Ok (Whole.Several k)) = l
 
 said_as : (p : Parameter) → by_told (walk_text p) (told_of p) ≡ parameter_text p
 unfolding told_of parameter_text walk_text lines_text
@@ -133,11 +134,11 @@ said_as (holds []) = refl
 said_as (holds (c ∷ [])) = sym (append-nil (own_line c))
 said_as (holds (c ∷ d ∷ cs)) = refl
 
-abbrev Unrefused : Whole → Type 0
-Unrefused (Whole.Refused n place) = ⊥
-Unrefused Whole.Empty = Unit {0}
-Unrefused (Whole.One c) = Unit {0}
-Unrefused (Whole.Several k) = Unit {0}
+abbrev Unrefused : Told → Type 0
+Unrefused (Err stop) = ⊥
+Unrefused (Ok Whole.Empty) = Unit {0}
+Unrefused (Ok (Whole.One c)) = Unit {0}
+Unrefused (Ok (Whole.Several k)) = Unit {0}
 
 told_held : (p : Parameter) → Unrefused (told_of p) → Held p
 unfolding told_of
@@ -147,33 +148,33 @@ told_held (holds cs) h = tt
 -- a parameter that is held is its components, from place 3 on
 framed_is : (f : Frame) (p : Parameter) → Held (held_in f p) → held_in f p ≡ p
 unfolding held_in
-framed_is (Frame.Bad n place) p h = absurd h
-framed_is Frame.Good p h = refl
+framed_is (Err stop) p h = absurd h
+framed_is (Ok u) p h = refl
 
 walk_is : (s : List ℕ) → Held (parameter_of s) → parameter_of s ≡ walk_of s 3
 unfolding parameter_of
 walk_is s h = framed_is (framed_of s) (walk_of s 3) h
 
-module _ (s : List ℕ) (w : Whole) (e : w ≡ told_of (parameter_of s)) where
-  several_is : (k : ℕ) → w ≡ Whole.Several k → Held (parameter_of s)
+module _ (s : List ℕ) (w : Told) (e : w ≡ told_of (parameter_of s)) where
+  several_is : (k : ℕ) → w ≡ Ok (Whole.Several k) → Held (parameter_of s)
   several_is k f = told_held (parameter_of s) (subst Unrefused (sym f ∙ e) tt)
 
-  pub several_held : (k : ℕ) → w ≡ Whole.Several k → Held (walk_of s 3)
-  several_held k f = let h = several_is k f in subst Held (walk_is s h) h
+  pub several_held : (v : Whole) (k : ℕ) → w ≡ Ok v → v ≡ Whole.Several k → Held (walk_of s 3)
+  several_held v k f g = let h = several_is k (f ∙ ap Ok g) in subst Held (walk_is s h) h
 
   module _ (l₀ l₁ : List ℕ) (j : ℕ) where
-    said-by : (v : Whole) → w ≡ v → Put l₀ 0 (by_told (walk_text (parameter_of s)) v) l₁ j → Put l₀ 0 (parameter_text (parameter_of s)) l₁ j
+    said-by : (v : Told) → w ≡ v → Put l₀ 0 (by_told (walk_text (parameter_of s)) v) l₁ j → Put l₀ 0 (parameter_text (parameter_of s)) l₁ j
     said-by v f p = put_as (ap (by_told (walk_text (parameter_of s))) (sym f ∙ e) ∙ said_as (parameter_of s)) p
 
-    pub said_refused : (n place : ℕ) → w ≡ Whole.Refused n place → Put l₀ 0 (refused_text n place) l₁ j
+    pub said_refused : (r : Refusal) → w ≡ Err r → Put l₀ 0 (refused_text r.number r.place) l₁ j
         → Put l₀ 0 (parameter_text (parameter_of s)) l₁ j
-    said_refused n place f p = said-by (Whole.Refused n place) f p
+    said_refused r f p = said-by (Err r) f p
 
-    pub said_none : w ≡ Whole.Empty → Put l₀ 0 (ascii "NONE\n") l₁ j → Put l₀ 0 (parameter_text (parameter_of s)) l₁ j
-    said_none f p = said-by Whole.Empty f p
+    pub said_none : (v : Whole) → w ≡ Ok v → v ≡ Whole.Empty → Put l₀ 0 (ascii "NONE\n") l₁ j → Put l₀ 0 (parameter_text (parameter_of s)) l₁ j
+    said_none v f g p = said-by (Ok Whole.Empty) (f ∙ ap Ok g) p
 
-    pub said_one : (c : Component) → w ≡ Whole.One c → Put l₀ 0 (own_line c) l₁ j → Put l₀ 0 (parameter_text (parameter_of s)) l₁ j
-    said_one c f p = said-by (Whole.One c) f p
+    pub said_one : (v : Whole) (c : Component) → w ≡ Ok v → v ≡ Whole.One c → Put l₀ 0 (own_line c) l₁ j → Put l₀ 0 (parameter_text (parameter_of s)) l₁ j
+    said_one v c f g p = said-by (Ok (Whole.One c)) (f ∙ ap Ok g) p
 
-    pub said_several : (k : ℕ) → w ≡ Whole.Several k → Put l₀ 0 (walk_text (walk_of s 3)) l₁ j → Put l₀ 0 (parameter_text (parameter_of s)) l₁ j
-    said_several k f p = said-by (Whole.Several k) f (put_as (ap walk_text (sym (walk_is s (several_is k f)))) p)
+    pub said_several : (v : Whole) (k : ℕ) → w ≡ Ok v → v ≡ Whole.Several k → Put l₀ 0 (walk_text (walk_of s 3)) l₁ j → Put l₀ 0 (parameter_text (parameter_of s)) l₁ j
+    said_several v k f g p = let e = f ∙ ap Ok g in said-by (Ok (Whole.Several k)) e (put_as (ap walk_text (sym (walk_is s (several_is k e)))) p)

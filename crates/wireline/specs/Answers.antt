@@ -1,11 +1,11 @@
 -- What is said of a whole input: of the component that it begins with, or of a parameter.
 -- Assumes nothing.
-use Rattle.std.specs.Prelude.{ℕ, List, [], ◌∷◌, ◌++◌}
+use Rattle.std.specs.Prelude.{ℕ, List, [], ◌∷◌, ◌++◌, Ok, Err}
 use Rattle.text.specs.Text.{ascii, numbered}
 use Rattle.wire.specs.Parameters.{Parameter, refused, holds}
-use Rattle.wire.specs.declared.Answer.{Answer}
 use Rattle.wire.specs.declared.Component.{Component}
 use Rattle.wireline.specs.Lines.{value_text, line_text}
+use Rattle.wire.specs.Answers.{Answer}
 
 -- a refusal's number and place
 unfoldable pub refused_text : ℕ → ℕ → List ℕ
@@ -16,8 +16,8 @@ unfoldable pub read_text : Component → ℕ → List ℕ
 read_text c next = line_text c ++ ascii " NEXT " ++ value_text next ++ ascii "\n"
 
 abbrev pub answer_text : Answer → List ℕ
-answer_text (Answer.Refused n place) = refused_text n place
-answer_text (Answer.Read c next) = read_text c next
+answer_text (Err r) = refused_text r.number r.place
+answer_text (Ok (c, next)) = read_text c next
 
 -- a component on a line of its own
 unfoldable pub own_line : Component → List ℕ

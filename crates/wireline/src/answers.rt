@@ -7,7 +7,7 @@ ghost use Rattle.wireline.specs.Answers.{refused_text, read_text, answer_text, o
 
 use crate::lines::{put_line, put_value};
 use text::put;
-use wire::{Answer, Component, Whole};
+use wire::{Component, Whole};
 
 fn put_refused(out: &mut [u8], n: u8, place: usize) -> usize
     ensures { Put out.old 0 (refused_text n place) out.new result }
@@ -34,8 +34,8 @@ pub(crate) fn put_component(out: &mut [u8], s: &[u8]) -> usize
 {
     let a = wire::read_component(s, 0);
     match a {
-        Answer::Refused(n, place) => put_refused(out, n, place),
-        Answer::Read(c, next) => put_read(out, c, next),
+        Err(r) => put_refused(out, r.number, r.place),
+        Ok((c, next)) => put_read(out, c, next),
     }
 }
 
@@ -59,8 +59,8 @@ fn put_each(out: &mut [u8], s: &[u8]) -> usize
     while place < s.len() {
         let a = wire::read_component(s, place);
         match a {
-            Answer::Refused(_, _) => return to,
-            Answer::Read(c, next) => {
+            Err(_) => return to,
+            Ok((c, next)) => {
                 to = put_own(out, to, c);
                 place = next;
             }
@@ -76,9 +76,11 @@ pub(crate) fn put_parameter(out: &mut [u8], s: &[u8]) -> usize
 {
     let w = wire::read_parameter(s);
     match w {
-        Whole::Refused(n, place) => put_refused(out, n, place),
-        Whole::Empty => text::put_word(out, 0, b"NONE\n"),
-        Whole::One(c) => put_own(out, 0, c),
-        Whole::Several(_) => put_each(out, s),
+        Err(r) => put_refused(out, r.number, r.place),
+        Ok(held) => match held {
+            Whole::Empty => text::put_word(out, 0, b"NONE\n"),
+            Whole::One(c) => put_own(out, 0, c),
+            Whole::Several(_) => put_each(out, s),
+        },
     }
 }

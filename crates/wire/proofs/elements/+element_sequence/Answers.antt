@@ -1,5 +1,6 @@
 -- The proof of the cycle of calls {element, sequence}.
 -- Assumes nothing.
+use Rattle.std.proofs.lemmas.Result.{err_from_is_err_and}
 use Rattle.wire.proofs.Levels.{element_bad, element_deep, element_own, element_held, element_plain, held_falls, going_done, going_stop, going_on, going_less}
 use Rattle.wire.proofs.elements.+element_sequence.Goals as goal
 
@@ -12,23 +13,23 @@ element-returns-then-own-eq1 t c = search element_own
 pub element-sequence-requires : goal.element-sequence-requires
 element-sequence-requires t c = (search held_falls, tt)
 
-pub element-returns-then-tag-eq1 : goal.element-returns-then-tag-eq1
-element-returns-then-tag-eq1 t c = search element_held
+pub element-returns-then-e-eq1 : goal.element-returns-then-e-eq1
+element-returns-then-e-eq1 t c = search element_held
 
-pub element-returns-in-Bad : goal.element-returns-in-Bad
-element-returns-in-Bad t c = search element_bad
+pub element-returns-in-Err : goal.element-returns-in-Err
+element-returns-in-Err t c = search element_bad
 
-pub element-returns-else-tag-eq1 : goal.element-returns-else-tag-eq1
-element-returns-else-tag-eq1 t c = search element_plain
+pub element-returns-else-e-eq1 : goal.element-returns-else-e-eq1
+element-returns-else-e-eq1 t c = search element_plain
 
-pub sequence-returns-in-Stop : goal.sequence-returns-in-Stop
-sequence-returns-in-Stop t c = search going_stop
+pub sequence-returns-in_err-place : goal.sequence-returns-in_err-place
+sequence-returns-in_err-place t c = let p = err_from_is_err_and c.from_residual.result c.from_residual.ensures.1 in rw (p.1, p.2) (search (going_stop, c.in_err-place.was))
 
 pub sequence-loop-place-smaller : goal.sequence-loop-place-smaller
-sequence-loop-place-smaller t c = search going_less
+sequence-loop-place-smaller t c = search (going_less, c.in_ok-place.was)
 
 pub sequence-loop-place-preserved : goal.sequence-loop-place-preserved
-sequence-loop-place-preserved t c = search going_on
+sequence-loop-place-preserved t c = search (going_on, c.in_ok-place.was)
 
 pub sequence-returns : goal.sequence-returns
 sequence-returns t c = search going_done

@@ -2,8 +2,8 @@ use Rattle.wire.proofs.Quickly.{carried_other, carried_usual}
 use borrow.Author.Rules.{rules}
 use Rattle.wire.proofs.quick.carried.Goals as goal
 
-pub returns-in-Other : goal.returns-in-Other
-returns-in-Other c = search (carried_other, rules)
+pub returns-in-None : goal.returns-in-None
+returns-in-None c = search (carried_other, carried_usual, rules)
 
-pub returns-in-Usual : goal.returns-in-Usual
-returns-in-Usual c = search (carried_other, carried_usual, rules)
+pub returns-in-Some : goal.returns-in-Some
+returns-in-Some c = search (carried_other, carried_usual, rules)

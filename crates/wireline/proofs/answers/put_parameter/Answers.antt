@@ -5,8 +5,8 @@ use Rattle.wireline.proofs.answers.put_parameter.Goals as goal
 pub put_each-requires : goal.put_each-requires
 put_each-requires c = (search (several_held), search rules)
 
-pub returns-in-Refused : goal.returns-in-Refused
-returns-in-Refused c = search (said_refused)
+pub returns-in-Err : goal.returns-in-Err
+returns-in-Err c = search (said_refused)
 
 pub returns-in-Empty : goal.returns-in-Empty
 returns-in-Empty c = search (said_none)
