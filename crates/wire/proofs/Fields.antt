@@ -6,9 +6,10 @@ use Prim.Native.Nat.{ℕ, zero, suc, ◌+◌, ◌/◌, ◌%◌, ◌≤◌, ◌<�
 use native.Mathlib.Omega.{arith}
 use lib.Dec.{eqb}
 use lib.ListN.{get_or}
+use Rattle.std.proofs.Common.{◌==◌, ◌||◌, not, Option, Some, None}
 use Rattle.text.specs.Choose.{if_eq, if_so}
 use Rattle.text.proofs.Cases.{yes_eq, no_eq, both_eq}
-use Rattle.wire.specs.Writable.{kind_ok, item_ok, parts_ok, number_ok, duration_ok, id_ok, field_if, fields_of, bad_from, bad_of, writable_of}
+use Rattle.wire.specs.Writable.{kind_ok, item_ok, parts_ok, number_ok, duration_ok, id_ok, field_if, fields_of, bad_from, ordinal, bad_of, writable_of}
 use Rattle.wire.specs.declared.Component.{Component}
 
 -- ---- any tests, of which the first has the ordinal k
@@ -34,8 +35,8 @@ module _ (k ok : ℕ) (fs : List ℕ) where
   head_on z h e = sym (yes_eq _ _ _ _ _ h refl) ∙ e
 
   -- z is what those after it give
-  head_as : (z : ℕ) → z ≡ bad_from (k + 1) fs → if_eq ok 1 z k ≡ bad_from k (ok ∷ fs)
-  unfolding bad_from
+  head_as : (z : ℕ) → z ≡ bad_from (k + 1) fs → if_so (ok == 1) z k ≡ bad_from k (ok ∷ fs)
+  unfolding bad_from if_eq
   head_as z e = ap (λ (y : ℕ). if_eq ok 1 y k) e
 
   -- a field that may be there
@@ -44,6 +45,13 @@ module _ (k ok : ℕ) (fs : List ℕ) where
   field_as zero z h e = let f : k + 0 ≡ k = omega arith in e ∙ ap (λ (y : ℕ). bad_from y fs) f
   field_as (suc zero) z h e = ap (λ (y : ℕ). if_so (eqb ok 1) y k) e
   field_as (suc (suc n)) z h e = absurd (omega arith)
+
+  -- and as the code has it
+  named_as : (n z : ℕ) → n < 2 → z ≡ bad_from (k + n) fs → if_so (not (n == 1) || (ok == 1)) z k ≡ bad_from k (field_if n ok fs)
+  unfolding if_eq if_so
+  named_as zero z h e = field_as zero z h e
+  named_as (suc zero) z h e = field_as (suc zero) z h e
+  named_as (suc (suc n)) z h e = absurd (omega arith)
 
 -- what is told is the first that fails, and the first that fails is told
 pub first_at : (k j : ℕ) (fs : List ℕ) → 1 ≤ k → bad_from k fs ≡ k + j → (get_or fs j 1 ≡ 1 → ⊥) × ((i : ℕ) → i < j → get_or fs i 1 ≡ 1)
@@ -138,14 +146,14 @@ module _ (c : Component) where
       (head_on _ _ _ 0 r.id (none_left _))))))))
 
   -- what is told, as the code has it
-  pub fields_as :
-      if_eq (kind_ok c.kind) 1
-      (if_eq (item_ok c.kind c.item) 1
-      (if_eq (parts_ok c) 1
-      (if_eq (if_eq (c.parts / 16 % 2) 1 (number_ok c.calling) 1) 1
-      (if_eq (if_eq (c.parts / 32 % 2) 1 (number_ok c.called) 1) 1
-      (if_eq (if_eq (c.parts / 64 % 2) 1 (duration_ok c.duration) 1) 1
-      (if_eq (id_ok c.kind c.id) 1 0
+  pub fields_as : bad_of c ≡
+      if_so (kind_ok c.kind == 1)
+      (if_so (item_ok c.kind c.item == 1)
+      (if_so (parts_ok c == 1)
+      (if_so (not (c.parts / 16 % 2 == 1) || (number_ok c.calling == 1))
+      (if_so (not (c.parts / 32 % 2 == 1) || (number_ok c.called == 1))
+      (if_so (not (c.parts / 64 % 2 == 1) || (duration_ok c.duration == 1))
+      (if_so (id_ok c.kind c.id == 1) 0
       (4 + c.parts / 16 % 2 + c.parts / 32 % 2 + c.parts / 64 % 2))
       (4 + c.parts / 16 % 2 + c.parts / 32 % 2))
       (4 + c.parts / 16 % 2))
@@ -153,16 +161,35 @@ module _ (c : Component) where
       3)
       2)
       1
-      ≡ bad_of c
   unfolding bad_of fields_of
   fields_as =
       let i : ℕ = c.parts / 16 % 2 in
       let j : ℕ = c.parts / 32 % 2 in
       let l : ℕ = c.parts / 64 % 2 in
-      head_as 1 _ _ _
+      sym
+      (head_as 1 _ _ _
       (head_as 2 _ _ _
       (head_as 3 _ _ _
-      (field_as 4 _ _ i _ (omega arith)
-      (field_as (4 + i) _ _ j _ (omega arith)
-      (field_as (4 + i + j) _ _ l _ (omega arith)
-      (head_as (4 + i + j + l) _ _ _ (sym (none_left _))))))))
+      (named_as 4 _ _ i _ (omega arith)
+      (named_as (4 + i) _ _ j _ (omega arith)
+      (named_as (4 + i + j) _ _ l _ (omega arith)
+      (head_as (4 + i + j + l) _ _ _ (sym (none_left _)))))))))
+
+-- ---- as it is answered
+
+pub ordinal_none : ◌≡◌ {A = Option ℕ} None (ordinal 0)
+unfolding ordinal if_eq if_so
+ordinal_none = refl
+
+pub ordinal_some : (k : ℕ) → (k ≡ 0 → ⊥) → Some k ≡ ordinal k
+unfolding ordinal
+ordinal_some k h = no_eq k 0 _ _ _ h refl
+
+-- and what it was
+pub told_ordinal : (bad k : ℕ) → Some k ≡ ordinal bad → (bad ≡ k) × (bad ≡ 0 → ⊥)
+unfolding ordinal
+told_ordinal bad k = both_eq bad 0 (λ (o : Option ℕ). Some k ≡ o → (bad ≡ k) × (bad ≡ 0 → ⊥)) _ _ (λ _ e. cc) (λ h e. (cc, h))
+
+pub told_none : (bad : ℕ) → None ≡ ordinal bad → bad ≡ 0
+unfolding ordinal
+told_none bad = both_eq bad 0 (λ (o : Option ℕ). None ≡ o → bad ≡ 0) _ _ (λ h _. h) (λ _ e. cc)

@@ -8,15 +8,17 @@ use native.Mathlib.Numerals.{add-one}
 use native.Mathlib.Omega.{arith}
 use lib.ListN.{length, drop, length-append}
 use lib.Seq.{append_snoc, sets-eq}
-use Rattle.text.specs.Choose.{if_eq}
+use Rattle.std.proofs.Common.{Result, Ok, Err}
+use Rattle.text.specs.Choose.{if_lt, if_eq}
 use Rattle.text.specs.Text.{Put}
-use Rattle.text.proofs.Cases.{yes_lt, no_lt, yes_eq, no_eq, both_eq}
+use Rattle.text.proofs.Cases.{yes_lt, no_lt, yes_eq, no_eq, both_lt, both_eq}
 use Rattle.text.proofs.Laws.{put_none, put_before, put_after, put_as}
 use Rattle.wire.specs.Texts.{element_text, text_if, pair_byte, octets_of, padded_of, number_text, flag_text, party_text, duration_text, first_text, parties_text, last_text, parts_text, seq_text, id_text, rejected_text, code_text, invoke_text, held_text, result_text, error_text, reject_text, component_text, parameter_text, written_of, leaves_of}
 use Rattle.wire.specs.Writable.{number_ok}
 use Rattle.wire.specs.declared.Component.{Component}
 use Rattle.wire.specs.declared.Number.{Number}
-use Rattle.wire.specs.declared.Written.{Written}
+use Rattle.wire.specs.declared.Unwritten.{Unwritten}
+use Rattle.wire.specs.declared.Unwritten.TheVariants.{BadField, NoRoom}
 
 -- ---- lengths
 
@@ -286,22 +288,35 @@ module _ (b : ℕ) (n : Number) (t : ℕ) (h : b ≡ 1) (g : 1 ≤ n.count % 128
   unfolding number_ok
   number_over l = yes_eq _ _ _ _ _ h (no_lt _ _ _ _ _ g (no_lt _ _ _ _ _ k (no_lt _ _ _ _ _ (omega arith) refl)))
 
--- ---- what is answered and left, of a text that can be written where w is 0
+-- ---- what is answered and left, of a text t whose length and room were looked at
 
-module _ (bad : ℕ) (t out : List ℕ) (w : ℕ) (e : w ≡ bad) where
-  pub write_not : (w ≡ 0 → ⊥) → (Written.Refused 3 w ≡ written_of bad t out) × (out ≡ leaves_of bad t out)
+module _ (bad : ℕ) (t out : List ℕ) (n : ℕ) (f : n ≡ length t) where
+  abbrev Looked : Result ℕ Unwritten → Type 0
+  Looked w = w ≡ if_eq bad 0 (if_lt (length out) n (Err NoRoom) (Ok n)) (Err (BadField bad))
+
+  pub write_not : (u : Unwritten) → Looked (Err u) → (Err u ≡ written_of bad t out) × (out ≡ leaves_of bad t out)
   unfolding written_of leaves_of
-  write_not h = (no_eq _ _ _ _ _ (λ f. h (e ∙ f)) (ap (Written.Refused 3) e), no_eq _ _ _ _ _ (λ f. h (e ∙ f)) refl)
+  write_not u e = (
+    e ∙ rw f,
+    both_eq bad 0 (λ (l : List ℕ). out ≡ l) _ _
+        (λ h. both_lt (length out) (length t) (λ (l : List ℕ). out ≡ l) _ _ (λ _. refl)
+        (λ g. let d : Ok n ≡ if_eq bad 0 (if_lt (length out) n (Err NoRoom) (Ok n)) (Err (BadField bad)) = yes_eq _ _ _ _ _ h (no_lt _ _ _ _ _ (omega arith) refl) in
+        cc))
+        (λ _. refl),
+  )
 
-  module _ (n : ℕ) (h : w ≡ 0) (f : n ≡ length t) where
-    pub write_full : length out < n → (Written.Refused 8 0 ≡ written_of bad t out) × (out ≡ leaves_of bad t out)
-    unfolding written_of leaves_of
-    write_full g = (yes_eq _ _ _ _ _ (sym e ∙ h) (yes_lt _ _ _ _ _ (omega arith) refl), yes_eq _ _ _ _ _ (sym e ∙ h) (yes_lt _ _ _ _ _ (omega arith) refl))
+  pub write_room : (k : ℕ) → Looked (Ok k) → (bad ≡ 0) × (n ≤ length out) × (k ≡ n)
+  write_room k =
+      both_eq bad 0 (λ (w : Result ℕ Unwritten). Ok k ≡ w → (bad ≡ 0) × (n ≤ length out) × (k ≡ n)) _ _
+      (λ h. both_lt (length out) n (λ (w : Result ℕ Unwritten). Ok k ≡ w → (bad ≡ 0) × (n ≤ length out) × (k ≡ n)) _ _ (λ _ e. cc)
+      (λ g e. (h, g, cc)))
+      (λ _ e. cc)
 
-    pub write_fits : (new : List ℕ) (r : ℕ) → n ≤ length out → Put out 0 t new r → (Written.Done n ≡ written_of bad t out) × (new ≡ leaves_of bad t out)
-    unfolding written_of leaves_of
-    write_fits new r g p = (
-      yes_eq _ _ _ _ _ (sym e ∙ h) (no_lt _ _ _ _ _ (omega arith) (rw f)),
-      yes_eq _ _ _ _ _ (sym e ∙ h)
-          (no_lt _ _ _ _ _ (omega arith) (p.bytes ∙ sets-eq t out 0 (omega arith) ∙ ap (λ (k : ℕ). t ++ drop k out) (zero-add (length t)))),
-    )
+  pub write_fits : (k : ℕ) (new : List ℕ) (r : ℕ) → Looked (Ok k) → Put out 0 t new r → (Ok k ≡ written_of bad t out) × (new ≡ leaves_of bad t out)
+  unfolding written_of leaves_of
+  write_fits k new r e p =
+      let w = write_room k e in (
+        e ∙ rw f,
+        yes_eq _ _ _ _ _ w.0
+            (no_lt _ _ _ _ _ (omega arith) (p.bytes ∙ sets-eq t out 0 (omega arith) ∙ ap (λ (k : ℕ). t ++ drop k out) (zero-add (length t)))),
+      )

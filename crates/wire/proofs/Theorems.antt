@@ -13,10 +13,11 @@ use Rattle.wire.specs.Elements.{sequence_of}
 use Rattle.wire.specs.Grammar.{kind_of, whole_of, component_of}
 use Rattle.text.proofs.Cases.{yes_lt, no_lt, yes_eq, no_eq, both_lt, both_eq}
 use Rattle.wire.specs.Parameters.{Parameter, refused, holds, before, onward, walk_of, framed_of, held_in, parameter_of}
-use Rattle.wire.specs.Texts.{component_text, parameter_text, written_of, leaves_of}
+use Rattle.wire.specs.Texts.{component_text, parameter_text, number_told, field_told, written_of, leaves_of}
 use Rattle.wire.specs.Writable.{fields_of, bad_of, writable_of}
 use Rattle.wire.specs.declared.Component.{Component}
-use Rattle.wire.specs.declared.Written.{Written}
+use Rattle.wire.specs.declared.Unwritten.{Unwritten}
+use Rattle.wire.specs.declared.Unwritten.TheVariants.{BadField, NoRoom}
 use Rattle.wire.proofs.Again.{read_back, frame_said, parameter_back}
 use Rattle.wire.proofs.Back.{Holds}
 use Rattle.wire.proofs.Cuts.{Again, Alike, alike_take, Less, head_again, head_less}
@@ -30,7 +31,7 @@ use Rattle.wire.proofs.Levels.{HeadWithin, head_within, Ends, sequence_ends}
 use Rattle.wire.proofs.Places.{Placed, component_placed, Met, walk_met}
 use Rattle.wire.proofs.Shortest.{headed}
 use Rattle.wire.specs.Answers.{Answer, Frame, Head, Seen, element, refusal}
-use Rattle.std.specs.Prelude.{Ok, Err}
+use Rattle.std.specs.Prelude.{Result, Ok, Err}
 
 behind : (a t u : List ℕ) → Holds (a ++ (t ++ u)) (length a) t
 behind a t u j h = get_or-append-add a (t ++ u) j 0 ∙ get_or-append t u 0 j h
@@ -224,54 +225,39 @@ none_told c = (
 pub none_told_is_writable : (c : Component) → (bad_of c ≡ 0) ↔ (writable_of c ≡ 1)
 none_told_is_writable c = (none_writable c, writable_none c)
 
-abbrev number_in : Written → ℕ
-number_in (Written.Done n) = 0
-number_in (Written.Refused n k) = n
-
-abbrev field_in : Written → ℕ
-field_in (Written.Done n) = 0
-field_in (Written.Refused n k) = k
-
 -- 3 is given exactly where it cannot be written, with that ordinal, whatever its text and the room.
-pub refused_with_its_field : (c : Component) (t out : List ℕ) (k : ℕ) → (written_of (bad_of c) t out ≡ Written.Refused 3 k) ↔ ((writable_of c ≡ 1 → ⊥) × (bad_of c ≡ k))
+pub refused_with_its_field : (c : Component) (t out : List ℕ) (k : ℕ) → (written_of (bad_of c) t out ≡ Err (BadField k)) ↔ ((writable_of c ≡ 1 → ⊥) × (bad_of c ≡ k))
 unfolding written_of
 refused_with_its_field c t out k = (
-  both_eq (bad_of c) 0 (λ (w : Written). w ≡ Written.Refused 3 k → (writable_of c ≡ 1 → ⊥) × (bad_of c ≡ k)) _ _
-      (λ _. both_lt _ _ (λ (w : Written). w ≡ Written.Refused 3 k → (writable_of c ≡ 1 → ⊥) × (bad_of c ≡ k)) _ _
-      (λ _ e. let z : ◌≡◌ {A = ℕ} 8 3 = ap number_in e in absurd (omega arith))
-      (λ _ e. let z : ◌≡◌ {A = ℕ} 0 3 = ap number_in e in absurd (omega arith)))
-      (λ h e. (λ w. h (writable_none c w), ap field_in e)),
-  λ w. sym (no_eq (bad_of c) 0 _ _ _ (λ e. w.0 (none_writable c e)) (ap (Written.Refused 3) (sym w.1))),
+  both_eq (bad_of c) 0 (λ (w : Result ℕ Unwritten). w ≡ Err (BadField k) → (writable_of c ≡ 1 → ⊥) × (bad_of c ≡ k)) _ _
+      (λ _. both_lt _ _ (λ (w : Result ℕ Unwritten). w ≡ Err (BadField k) → (writable_of c ≡ 1 → ⊥) × (bad_of c ≡ k)) _ _ (λ _ e. cc) (λ _ e. cc))
+      (λ h e. (λ w. h (writable_none c w), cc)),
+  λ w. sym (no_eq (bad_of c) 0 _ _ _ (λ e. w.0 (none_writable c e)) (ap (λ (n : ℕ). Err (BadField n)) (sym w.1))),
 )
 
 -- 8 is given exactly where it can be written and there is too little room, with the ordinal 0 ..
-pub refused_for_room : (c : Component) (t out : List ℕ) → (written_of (bad_of c) t out ≡ Written.Refused 8 0) ↔ ((writable_of c ≡ 1) × (length out < length t))
+pub refused_for_room : (c : Component) (t out : List ℕ) → (written_of (bad_of c) t out ≡ Err NoRoom) ↔ ((writable_of c ≡ 1) × (length out < length t))
 unfolding written_of
 refused_for_room c t out = (
-  both_eq (bad_of c) 0 (λ (w : Written). w ≡ Written.Refused 8 0 → (writable_of c ≡ 1) × (length out < length t)) _ _
-      (λ h. both_lt _ _ (λ (w : Written). w ≡ Written.Refused 8 0 → (writable_of c ≡ 1) × (length out < length t)) _ _
-      (λ l e. (none_writable c h, l))
-      (λ _ e. let z : ◌≡◌ {A = ℕ} 0 8 = ap number_in e in absurd (omega arith)))
-      (λ _ e. let z : ◌≡◌ {A = ℕ} 3 8 = ap number_in e in absurd (omega arith)),
+  both_eq (bad_of c) 0 (λ (w : Result ℕ Unwritten). w ≡ Err NoRoom → (writable_of c ≡ 1) × (length out < length t)) _ _
+      (λ h. both_lt _ _ (λ (w : Result ℕ Unwritten). w ≡ Err NoRoom → (writable_of c ≡ 1) × (length out < length t)) _ _
+      (λ l e. (none_writable c h, l)) (λ _ e. cc))
+      (λ _ e. cc),
   λ w. sym (yes_eq (bad_of c) 0 _ _ _ (writable_none c w.0) (yes_lt _ _ _ _ _ w.1 refl)),
 )
 
 -- .. and there is no other refusal.
-pub no_other_refusal : (c : Component) (t out : List ℕ) (n k : ℕ) → written_of (bad_of c) t out ≡ Written.Refused n k → (n ≡ 3 → ⊥) → (n ≡ 8) × (k ≡ 0) × (length out < length t)
-unfolding written_of
-no_other_refusal c t out n k =
-    both_eq (bad_of c) 0 (λ (w : Written). w ≡ Written.Refused n k → (n ≡ 3 → ⊥) → (n ≡ 8) × (k ≡ 0) × (length out < length t)) _ _
-    (λ _. both_lt _ _ (λ (w : Written). w ≡ Written.Refused n k → (n ≡ 3 → ⊥) → (n ≡ 8) × (k ≡ 0) × (length out < length t)) _ _
-    (λ h e f. (sym (ap number_in e), sym (ap field_in e), h))
-    (λ _ e f. let z : ◌≡◌ {A = ℕ} 0 1 = cc in absurd (omega arith)))
-    (λ _ e f. absurd (f (sym (ap number_in e))))
+pub no_other_refusal : (c : Component) (t out : List ℕ) (u : Unwritten) → written_of (bad_of c) t out ≡ Err u → (number_told u ≡ 3 → ⊥)
+    → (number_told u ≡ 8) × (field_told u ≡ 0) × (length out < length t)
+unfolding number_told field_told
+no_other_refusal c t out (BadField k) e f = absurd (f refl)
+no_other_refusal c t out NoRoom e f = (refl, refl, ((refused_for_room c t out).0 e).1)
 
 -- Whatever is refused, the buffer is left as it was.
-pub refused_stores_nothing : (c : Component) (t out : List ℕ) (n k : ℕ) → written_of (bad_of c) t out ≡ Written.Refused n k → leaves_of (bad_of c) t out ≡ out
+pub refused_stores_nothing : (c : Component) (t out : List ℕ) (u : Unwritten) → written_of (bad_of c) t out ≡ Err u → leaves_of (bad_of c) t out ≡ out
 unfolding written_of leaves_of
-refused_stores_nothing c t out n k =
-    both_eq (bad_of c) 0 (λ (l : List ℕ). written_of (bad_of c) t out ≡ Written.Refused n k → l ≡ out) _ _
-    (λ h. both_lt _ _ (λ (l : List ℕ). written_of (bad_of c) t out ≡ Written.Refused n k → l ≡ out) _ _ (λ _ _. refl)
-    (λ g e. let d : Written.Done (length t) ≡ written_of (bad_of c) t out = yes_eq _ _ _ _ _ h (no_lt _ _ _ _ _ g refl) in
-    let z : ◌≡◌ {A = ℕ} 0 1 = cc in absurd (omega arith)))
+refused_stores_nothing c t out u =
+    both_eq (bad_of c) 0 (λ (l : List ℕ). written_of (bad_of c) t out ≡ Err u → l ≡ out) _ _
+    (λ h. both_lt _ _ (λ (l : List ℕ). written_of (bad_of c) t out ≡ Err u → l ≡ out) _ _ (λ _ _. refl)
+    (λ g e. let d : Ok (length t) ≡ written_of (bad_of c) t out = yes_eq _ _ _ _ _ h (no_lt _ _ _ _ _ g refl) in cc))
     (λ _ _. refl)

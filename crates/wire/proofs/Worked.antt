@@ -16,7 +16,7 @@ use Rattle.wire.specs.Texts.{element_text, text_if, octets_of, padded_of, number
 use Rattle.wire.specs.Writable.{range_ok, both_ok, item_ok, argument_ok, result_ok, places_ok, unnamed_ok, untimed_ok, parts_ok, number_ok, duration_ok, id_ok, field_if, fields_of, bad_from, bad_of}
 use Rattle.wire.specs.declared.Component.{Component}
 use Rattle.wire.specs.declared.Number.{Number}
-use Rattle.wire.specs.declared.Written.{Written}
+use Rattle.wire.specs.declared.Unwritten.TheVariants.{BadField, NoRoom}
 use Rattle.wire.specs.Answers.{refusal}
 use Rattle.std.specs.Prelude.{Ok, Err}
 
@@ -162,15 +162,15 @@ texts = (refl, refl, refl, refl)
 
 -- just room enough, a byte more, which stays, a byte less: 8, and nothing is written. 3 before 8, with the first bad field: error 13, a Duration
 -- too long, part 4 alone, an error with no identifier
-written : (written_of (bad_of (component 4 0 0 absent_number absent_number 0 256)) (component_text (component 4 0 0 absent_number absent_number 0 256)) (9 ∷ 9 ∷ 9 ∷ 9 ∷ 9 ∷ 9 ∷ 9 ∷ []) ≡ Written.Done 7)
+written : (written_of (bad_of (component 4 0 0 absent_number absent_number 0 256)) (component_text (component 4 0 0 absent_number absent_number 0 256)) (9 ∷ 9 ∷ 9 ∷ 9 ∷ 9 ∷ 9 ∷ 9 ∷ []) ≡ Ok 7)
     × (leaves_of (bad_of (component 4 0 0 absent_number absent_number 0 256)) (component_text (component 4 0 0 absent_number absent_number 0 256)) (9 ∷ 9 ∷ 9 ∷ 9 ∷ 9 ∷ 9 ∷ 9 ∷ 9 ∷ []) ≡ 164 ∷ 5 ∷ 5 ∷ 0 ∷ 128 ∷ 1 ∷ 0 ∷ 9 ∷ [])
-    × (written_of (bad_of (component 4 0 0 absent_number absent_number 0 256)) (component_text (component 4 0 0 absent_number absent_number 0 256)) (9 ∷ 9 ∷ 9 ∷ 9 ∷ 9 ∷ 9 ∷ []) ≡ Written.Refused 8 0)
+    × (written_of (bad_of (component 4 0 0 absent_number absent_number 0 256)) (component_text (component 4 0 0 absent_number absent_number 0 256)) (9 ∷ 9 ∷ 9 ∷ 9 ∷ 9 ∷ 9 ∷ []) ≡ Err NoRoom)
     × (leaves_of (bad_of (component 4 0 0 absent_number absent_number 0 256)) (component_text (component 4 0 0 absent_number absent_number 0 256)) (9 ∷ 9 ∷ 9 ∷ 9 ∷ 9 ∷ 9 ∷ []) ≡ 9 ∷ 9 ∷ 9 ∷ 9 ∷ 9 ∷ 9 ∷ [])
-    × (written_of (bad_of (component 2 3 86 (number 143 999999999999999) absent_number 921599 3)) (component_text (component 2 3 86 (number 143 999999999999999) absent_number 921599 3)) (9 ∷ 9 ∷ 9 ∷ 9 ∷ 9 ∷ 9 ∷ 9 ∷ 9 ∷ 9 ∷ 9 ∷ 9 ∷ 9 ∷ 9 ∷ 9 ∷ 9 ∷ 9 ∷ 9 ∷ 9 ∷ 9 ∷ 9 ∷ 9 ∷ 9 ∷ 9 ∷ 9 ∷ 9 ∷ 9 ∷ 9 ∷ 9 ∷ 9 ∷ 9 ∷ 9 ∷ 9 ∷ 9 ∷ 9 ∷ 9 ∷ 9 ∷ 9 ∷ 9 ∷ []) ≡ Written.Done 38)
-    × (written_of (bad_of (component 3 13 0 absent_number absent_number 0 1)) (component_text (component 3 13 0 absent_number absent_number 0 1)) [] ≡ Written.Refused 3 2)
-    × (written_of (bad_of (component 2 3 64 absent_number absent_number 921600 1)) (component_text (component 2 3 64 absent_number absent_number 921600 1)) [] ≡ Written.Refused 3 4)
-    × (written_of (bad_of (component 2 1 4 absent_number absent_number 0 1)) (component_text (component 2 1 4 absent_number absent_number 0 1)) [] ≡ Written.Refused 3 3)
-    × (written_of (bad_of (component 3 5 0 absent_number absent_number 0 256)) (component_text (component 3 5 0 absent_number absent_number 0 256)) [] ≡ Written.Refused 3 4)
+    × (written_of (bad_of (component 2 3 86 (number 143 999999999999999) absent_number 921599 3)) (component_text (component 2 3 86 (number 143 999999999999999) absent_number 921599 3)) (9 ∷ 9 ∷ 9 ∷ 9 ∷ 9 ∷ 9 ∷ 9 ∷ 9 ∷ 9 ∷ 9 ∷ 9 ∷ 9 ∷ 9 ∷ 9 ∷ 9 ∷ 9 ∷ 9 ∷ 9 ∷ 9 ∷ 9 ∷ 9 ∷ 9 ∷ 9 ∷ 9 ∷ 9 ∷ 9 ∷ 9 ∷ 9 ∷ 9 ∷ 9 ∷ 9 ∷ 9 ∷ 9 ∷ 9 ∷ 9 ∷ 9 ∷ 9 ∷ 9 ∷ []) ≡ Ok 38)
+    × (written_of (bad_of (component 3 13 0 absent_number absent_number 0 1)) (component_text (component 3 13 0 absent_number absent_number 0 1)) [] ≡ Err (BadField 2))
+    × (written_of (bad_of (component 2 3 64 absent_number absent_number 921600 1)) (component_text (component 2 3 64 absent_number absent_number 921600 1)) [] ≡ Err (BadField 4))
+    × (written_of (bad_of (component 2 1 4 absent_number absent_number 0 1)) (component_text (component 2 1 4 absent_number absent_number 0 1)) [] ≡ Err (BadField 3))
+    × (written_of (bad_of (component 3 5 0 absent_number absent_number 0 256)) (component_text (component 3 5 0 absent_number absent_number 0 256)) [] ≡ Err (BadField 4))
 unfolding written_of leaves_of bad_of bad_from fields_of field_if range_ok both_ok item_ok argument_ok result_ok places_ok unnamed_ok untimed_ok parts_ok number_ok duration_ok id_ok component_text invoke_text result_text held_text error_text reject_text rejected_text id_text code_text seq_text parts_text first_text parties_text last_text flag_text party_text duration_text number_text padded_of octets_of element_text text_if if_lt if_le if_eq if_so
 written = (refl, refl, refl, refl, refl, refl, refl, refl, refl)
 

@@ -1,12 +1,12 @@
 -- The bytes of a component, and of a parameter of one, as they are written: every length is the shortest, one byte. And what the writers
 -- answer and leave. (Writable.antt has what can be written.)
 -- Assumes nothing.
-use Rattle.std.specs.Prelude.{List, [], ◌∷◌, ◌++◌, ℕ, zero, suc, ◌+◌, ◌*◌, ◌/◌, ◌%◌, ◌^◌, length, drop}
+use Rattle.std.specs.Prelude.{List, [], ◌∷◌, ◌++◌, ℕ, zero, suc, ◌+◌, ◌*◌, ◌/◌, ◌%◌, ◌^◌, length, drop, Result, Ok, Err}
 use Rattle.text.specs.Choose.{if_lt, if_eq}
 use Rattle.wire.specs.declared.Component.{Component}
 use Rattle.wire.specs.declared.Number.{Number}
-use Rattle.wire.specs.declared.Written.{Written}
-use Rattle.wire.specs.declared.Written.TheVariants.{Done, Refused}
+use Rattle.wire.specs.declared.Unwritten.{Unwritten}
+use Rattle.wire.specs.declared.Unwritten.TheVariants.{BadField, NoRoom}
 
 unfoldable pub element_text : ℕ → List ℕ → List ℕ
 element_text tag t = tag ∷ length t ∷ t
@@ -95,9 +95,18 @@ parameter_text c = 50 ∷ (length (component_text c) + 1) ∷ 145 ∷ component_
 
 -- ---- what a writer of the text t answers and leaves, where bad is the ordinal of the first field out of range, or 0
 
--- 3 with that ordinal, then 8, then the length
-unfoldable pub written_of : ℕ → List ℕ → List ℕ → Written
-written_of bad t out = if_eq bad 0 (if_lt (length out) (length t) (Refused 8 0) (Done (length t))) (Refused 3 bad)
+-- 01, "Numbers given back": a refusal's number, and the ordinal that stands beside it, else 0
+unfoldable pub number_told : Unwritten → ℕ
+number_told (BadField k) = 3
+number_told NoRoom = 8
+
+unfoldable pub field_told : Unwritten → ℕ
+field_told (BadField k) = k
+field_told NoRoom = 0
+
+-- the bad field, then too little room, then the length
+unfoldable pub written_of : ℕ → List ℕ → List ℕ → Result ℕ Unwritten
+written_of bad t out = if_eq bad 0 (if_lt (length out) (length t) (Err NoRoom) (Ok (length t))) (Err (BadField bad))
 
 -- bytes past the text stay; on a refusal all do
 unfoldable pub leaves_of : ℕ → List ℕ → List ℕ → List ℕ

@@ -1,7 +1,7 @@
 -- What can be written: a component whose fields are all in range. Each field has a test of its own, which is 1 for a value in range, else 0.
 -- Of a component that cannot be written the ordinal of its first field out of range is told.
 -- Assumes nothing.
-use Rattle.std.specs.Prelude.{List, [], ◌∷◌, ℕ, ◌+◌, ◌*◌, ◌/◌, ◌%◌, ◌^◌}
+use Rattle.std.specs.Prelude.{List, [], ◌∷◌, ℕ, Option, Some, None, ◌+◌, ◌*◌, ◌/◌, ◌%◌, ◌^◌}
 use Rattle.text.specs.Choose.{if_lt, if_eq}
 use Rattle.wire.specs.declared.Component.{Component}
 use Rattle.wire.specs.declared.Number.{Number}
@@ -102,6 +102,10 @@ bad_from k (ok ∷ fields) = if_eq ok 1 (bad_from (k + 1) fields) k
 
 unfoldable pub bad_of : Component → ℕ
 bad_of c = bad_from 1 (fields_of c)
+
+-- an ordinal as it is answered: 0, which is none, is None
+unfoldable pub ordinal : ℕ → Option ℕ
+ordinal k = if_eq k 0 None (Some k)
 
 -- no field is out of range
 unfoldable pub writable_of : Component → ℕ

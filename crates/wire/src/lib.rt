@@ -90,9 +90,9 @@ pub enum Whole {
     Several(usize),
 }
 
-// A text written, with its length; or a refusal's number, and with 3 the ordinal of the first field that is out of range, else 0.
-#[derive(Clone, Copy)]
-pub enum Written {
-    Done(usize),
-    Refused(u8, u8),
+// Why a text is not written: the field with this ordinal is the first that is out of range; or there is too little room.
+#[derive(Clone, Copy, PartialEq, Eq)]
+pub enum Unwritten {
+    BadField(u8),
+    NoRoom,
 }

@@ -1,17 +1,14 @@
 // A component's bytes. Sizes first, then the bytes, put by the functions of `text`.
 ghost use Rattle.std.specs.Prelude.{◌≡◌, ◌∷◌, [], ◌+◌, ◌*◌, ◌/◌, ◌%◌, ◌≤◌, ◌<◌, ◌^◌, length};
-ghost use Rattle.text.specs.Choose.{if_eq};
+ghost use Rattle.text.specs.Choose.{if_lt, if_eq};
 ghost use Rattle.text.specs.Text.{Put};
 ghost use Rattle.wire.specs.Texts.{pair_byte, octets_of, padded_of, number_text, flag_text, party_text, duration_text, first_text, parties_text, last_text, parts_text, seq_text, id_text, rejected_text, code_text, invoke_text, held_text, result_text, error_text, reject_text, component_text, parameter_text, written_of, leaves_of};
+ghost use Rattle.wire.specs.declared.Unwritten.TheVariants.{BadField, NoRoom};
 ghost use Rattle.wire.specs.Writable.{bad_of};
 
 use crate::writable::bad_field;
-use crate::{Component, Number, Written};
+use crate::{Component, Number, Unwritten};
 use text::put;
-
-const BAD_FIELD: u8 = 3;
-
-const NO_ROOM: u8 = 8;
 
 // ---- sizes
 
@@ -83,12 +80,6 @@ fn rejected_size(id: u16) -> u8
     3
 }
 
-fn wide(x: u8) -> usize
-    ensures { (result ≡ x) × (result < 256) }
-{
-    x as usize
-}
-
 // The length of a component.
 fn size(c: Component) -> u8
     ensures { (result ≡ length (component_text c)) × (result ≤ 168) }
@@ -154,7 +145,7 @@ fn put_number(out: &mut [u8], at: usize, n: Number) -> usize
 {
     let to = put_two(out, at, n.count % 2 * 128 + n.count / 128 + 3, 19);
     let v = padded(n.count, n.value);
-    put_octets(out, to, v, wide((n.count % 128 + 1) / 2))
+    put_octets(out, to, v, usize::from((n.count % 128 + 1) / 2))
 }
 
 fn put_flag(out: &mut [u8], at: usize, present: u8, tag: u8, x: u8) -> usize
@@ -335,23 +326,6 @@ fn put_component(out: &mut [u8], at: usize, c: Component) -> usize
     put_reject(out, at, c)
 }
 
-// 3 and the first bad field for what cannot be written, then 8 for too little room; else the component's bytes.
-pub fn write_component(c: Component, out: &mut [u8]) -> Written
-    ensures { (result ≡ written_of (bad_of c) (component_text c) out.old)
-        × (out.new ≡ leaves_of (bad_of c) (component_text c) out.old) }
-{
-    let bad = bad_field(c);
-    if bad == 0 {
-        let n = wide(size(c));
-        if out.len() < n {
-            return Written::Refused(NO_ROOM, 0);
-        }
-        put_component(out, 0, c);
-        return Written::Done(n);
-    }
-    Written::Refused(BAD_FIELD, bad)
-}
-
 fn put_parameter(out: &mut [u8], at: usize, c: Component) -> usize
     requires { at < 2 ^ 54 }
     ensures { Put out.old at (parameter_text c) out.new result }
@@ -361,19 +335,33 @@ fn put_parameter(out: &mut [u8], at: usize, c: Component) -> usize
     put_component(out, b, c)
 }
 
+// Whether a text of this length, of this component, can be written into this room: its first bad field is told, then too little room.
+fn fits(c: Component, size: usize, room: usize) -> Result<usize, Unwritten>
+    ensures { result ≡ if_eq (bad_of c) 0 (if_lt room size (Err NoRoom) (Ok size)) (Err (BadField (bad_of c))) }
+{
+    match bad_field(c) {
+        Some(k) => Err(Unwritten::BadField(k)),
+        None if room < size => Err(Unwritten::NoRoom),
+        None => Ok(size),
+    }
+}
+
+// The first bad field of what cannot be written, then too little room; else the component's bytes.
+pub fn write_component(c: Component, out: &mut [u8]) -> Result<usize, Unwritten>
+    ensures { (result ≡ written_of (bad_of c) (component_text c) out.old)
+        × (out.new ≡ leaves_of (bad_of c) (component_text c) out.old) }
+{
+    let n = fits(c, usize::from(size(c)), out.len())?;
+    put_component(out, 0, c);
+    Ok(n)
+}
+
 // The same for a whole parameter of this one component.
-pub fn write_parameter(c: Component, out: &mut [u8]) -> Written
+pub fn write_parameter(c: Component, out: &mut [u8]) -> Result<usize, Unwritten>
     ensures { (result ≡ written_of (bad_of c) (parameter_text c) out.old)
         × (out.new ≡ leaves_of (bad_of c) (parameter_text c) out.old) }
 {
-    let bad = bad_field(c);
-    if bad == 0 {
-        let n = wide(size(c)) + 3;
-        if out.len() < n {
-            return Written::Refused(NO_ROOM, 0);
-        }
-        put_parameter(out, 0, c);
-        return Written::Done(n);
-    }
-    Written::Refused(BAD_FIELD, bad)
+    let n = fits(c, usize::from(size(c)) + 3, out.len())?;
+    put_parameter(out, 0, c);
+    Ok(n)
 }

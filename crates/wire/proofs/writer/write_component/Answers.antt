@@ -1,12 +1,12 @@
-use Rattle.std.proofs.Common.{arith, ◌∙◌}
-use Rattle.wire.proofs.Pieces.{write_full, write_fits, write_not}
+use Rattle.std.proofs.Common.{◌∙◌}
+use Rattle.std.proofs.lemmas.Result.{err_from_is_err_and}
+use Rattle.wire.proofs.Pieces.{write_not, write_fits}
 use Rattle.wire.proofs.writer.write_component.Goals as goal
 
-pub returns-then-out-n : goal.returns-then-out-n
-returns-then-out-n c = write_full _ _ _ _ c.bad_field-bad.ensures _ (omega arith) (c.wide-n.ensures.0 ∙ c.size.ensures.0) (omega arith)
-
-pub returns-then-bad-eq0 : goal.returns-then-bad-eq0
-returns-then-bad-eq0 c = write_fits _ _ _ _ c.bad_field-bad.ensures _ (omega arith) (c.wide-n.ensures.0 ∙ c.size.ensures.0) _ _ (omega arith) c.put_component.ensures
+pub returns-in_err-n : goal.returns-in_err-n
+returns-in_err-n c =
+    let p = err_from_is_err_and c.from_residual.result c.from_residual.ensures.1 in
+    rw (p.1, p.2) (write_not _ _ _ _ (c.from.ensures ∙ c.size.ensures.0) _ c.in_err-n.ensures)
 
 pub returns : goal.returns
-returns c = write_not _ _ _ _ c.bad_field-bad.ensures (λ e. omega arith)
+returns c = write_fits _ _ _ _ (c.from.ensures ∙ c.size.ensures.0) _ _ _ c.in_ok-n.ensures c.put_component.ensures

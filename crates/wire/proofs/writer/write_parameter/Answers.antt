@@ -1,12 +1,11 @@
-use Rattle.std.proofs.Common.{arith}
-use Rattle.wire.proofs.Pieces.{write_full, write_fits, write_not, parameter_size}
+use Rattle.std.proofs.lemmas.Result.{err_from_is_err_and}
+use Rattle.wire.proofs.Pieces.{write_not, write_fits, parameter_size}
 use Rattle.wire.proofs.writer.write_parameter.Goals as goal
 
-pub returns-then-out-n : goal.returns-then-out-n
-returns-then-out-n c = write_full _ _ _ _ c.bad_field-bad.ensures _ (omega arith) (parameter_size _ _ _ c.size.ensures.0 c.wide-n.ensures.0) (omega arith)
-
-pub returns-then-bad-eq0 : goal.returns-then-bad-eq0
-returns-then-bad-eq0 c = write_fits _ _ _ _ c.bad_field-bad.ensures _ (omega arith) (parameter_size _ _ _ c.size.ensures.0 c.wide-n.ensures.0) _ _ (omega arith) c.put_parameter.ensures
+pub returns-in_err-n : goal.returns-in_err-n
+returns-in_err-n c =
+    let p = err_from_is_err_and c.from_residual.result c.from_residual.ensures.1 in
+    rw (p.1, p.2) (write_not _ _ _ _ (parameter_size _ _ _ c.size.ensures.0 c.from.ensures) _ c.in_err-n.ensures)
 
 pub returns : goal.returns
-returns c = write_not _ _ _ _ c.bad_field-bad.ensures (λ e. omega arith)
+returns c = write_fits _ _ _ _ (parameter_size _ _ _ c.size.ensures.0 c.from.ensures) _ _ _ c.in_ok-n.ensures c.put_parameter.ensures
