@@ -3,7 +3,7 @@ ghost use Rattle.std.specs.Prelude.{◌≤◌, length, IfOk};
 
 use crate::guess::{event_of, numeric};
 use crate::refused::{Refused, Stop};
-use files::Where;
+use files::{Unwritten, Where};
 use rows::Event;
 
 // The line that a dump begins with.
@@ -30,14 +30,13 @@ fn event_words(line: &[u8]) -> &[u8] {
 }
 
 // A plain record, or one of kind 7.
-fn write(w: Where, e: Event, out: &mut [u8]) -> Result<usize, Refused>
+fn write(w: Where, e: Event, out: &mut [u8]) -> Result<usize, Unwritten>
     ensures { IfOk result (λ n. n ≤ length out.old) }
 {
-    let n = match w {
-        Where::Plain => files::write_event(e, out)?,
-        Where::Slot(slot) => files::write_at_slot(slot, e, out)?,
-    };
-    Ok(n)
+    match w {
+        Where::Plain => files::write_event(e, out),
+        Where::Slot(slot) => files::write_at_slot(slot, e, out),
+    }
 }
 
 // The line with this count, recorded at `to`: the place after it.

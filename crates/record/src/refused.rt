@@ -7,9 +7,7 @@ use std::fmt;
 pub(crate) enum Refused {
     Unknown,
     EndsInReturn,
-    // this field, by its ordinal in the body, is out of its range
-    BadField(u8),
-    TooLong,
+    Unwritten(Unwritten),
 }
 
 // The first line that is refused, counted from 1.
@@ -21,10 +19,7 @@ pub(crate) struct Stop {
 
 impl From<Unwritten> for Refused {
     fn from(why: Unwritten) -> Refused {
-        match why {
-            Unwritten::BadField(field) => Refused::BadField(field),
-            Unwritten::NoRoom => Refused::TooLong,
-        }
+        Refused::Unwritten(why)
     }
 }
 
@@ -33,10 +28,10 @@ impl fmt::Display for Refused {
         match *self {
             Refused::Unknown => write!(f, "not known: no record has these words"),
             Refused::EndsInReturn => write!(f, "not known: it ends in a carriage return"),
-            Refused::BadField(field) => {
+            Refused::Unwritten(Unwritten::BadField(field)) => {
                 write!(f, "REFUSED 3: field {field} is out of its range")
             }
-            Refused::TooLong => {
+            Refused::Unwritten(Unwritten::NoRoom) => {
                 write!(f, "REFUSED 8: the file would have more than 65,536 bytes")
             }
         }

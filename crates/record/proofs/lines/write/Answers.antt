@@ -1,11 +1,9 @@
-use Rattle.std.proofs.Common.{rules, ◌≡◌, ◌≤◌, sym, ◌∙◌}
+use Rattle.std.proofs.Common.{◌≤◌, length, IfOk}
 use Rattle.record.proofs.Fits.{plain_within, slotted_within}
 use Rattle.record.proofs.lines.write.Goals as goal
-use Rattle.record.proofs.lines.write.Goals.{in-Plain, in-Slot}
 
-pub returns-in-Whole : goal.returns-in-Whole
-returns-in-Whole c =
-    elim c.match-w.branch [
-      in-Plain w ↦ plain_within _ _ _ (search rules)
-    | in-Slot w ↦ slotted_within _ _ _ _ (search rules)
-    ]
+pub returns-in-Plain : goal.returns-in-Plain
+returns-in-Plain c = rw c.write_event.ensures.0 (plain_within _ _)
+
+pub returns-in-Slot : goal.returns-in-Slot
+returns-in-Slot c = rw c.write_at_slot.ensures.0 (slotted_within _ _ _)
