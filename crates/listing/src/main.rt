@@ -8,9 +8,9 @@ fn main(rt: HostRuntime) -> io::Result<()> {
     let mut file = [0u8; 65537];
     let n = input::fill(&rt, &mut file)?;
     let mut out = [0u8; 65536];
-    let k = files::rev_listing(&file[..n], &mut out);
-    if k == 8 {
-        return rt.write_all(b"REFUSED 8\n");
+    match files::rev_listing(&file[..n], &mut out) {
+        // Kept: rev_listing gives a host in C this number too (rev.h).
+        8 => rt.write_all(b"REFUSED 8\n"),
+        k => rt.write_all(&out[..k]),
     }
-    rt.write_all(&out[..k])
 }

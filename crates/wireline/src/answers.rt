@@ -55,6 +55,7 @@ fn put_each(out: &mut [u8], s: &[u8]) -> usize
 {
     let mut to = 0;
     let mut place = 3;
+    // Kept: the next place is what the reader answers, and no count.
     while place < s.len() {
         let Ok((c, next)) = wire::read_component(s, place) else {
             return to;

@@ -19,6 +19,7 @@ fn code(w: &[u8]) -> u8 {
 }
 
 // An operation or an error.
+// Kept: record's operation() has these words too; shared, they would need a definition that has them once more, and be longer.
 fn item(w: &[u8]) -> u8 {
     match w {
         b"SETUP" => 1,

@@ -141,10 +141,10 @@ fn tell_bytes(rt: &(impl Env + Print), s: &[u8]) -> io::Result<()>
 fn tell_front(rt: &(impl Env + Print), out: &[u8], n: usize) -> io::Result<()>
     requires { length out.now ≤ 65536 }
 {
-    if out.len() < n {
-        return too_long(rt);
+    match out.get(..n) {
+        Some(front) => tell_bytes(rt, front),
+        None => too_long(rt),
     }
-    tell_bytes(rt, &out[..n])
 }
 
 // The component that a line says, written into a room.
@@ -168,10 +168,10 @@ fn write_room(
 ) -> io::Result<()>
     requires { length out.old ≤ 65536 }
 {
-    if out.len() < to {
-        return eprintln!(rt; "wire: a room has at most 65,535 bytes");
+    match out.get_mut(..to) {
+        Some(room) => write_in(rt, line, room),
+        None => eprintln!(rt; "wire: a room has at most 65,535 bytes"),
     }
-    write_in(rt, line, &mut out[..to])
 }
 
 fn write(rt: &(impl Env + Input + Print + Eprint), room: u64) -> io::Result<()> {
