@@ -4,88 +4,73 @@
 ghost use Rattle.std.specs.Prelude.{◌≤◌};
 ghost use Rattle.record.specs.Guess.{Right};
 
-use crate::Parsed;
-use crate::pieces::{code, find, is, numeric, piece, seconds, slot, small, start, value, word};
 use files::Where;
+use pieces::{after, has, value, word};
 use rows::{ABSENT, Component, Event, Message, Nature, Number};
 
-// Past the last word: an event has at most 18.
-const NOWHERE: usize = 18;
-
-// A record has seven bits for a count: a greater one makes a line unknown.
-fn counted(nature: Nature, w: &[u8]) -> Number {
-    let count = code(piece(w, b':', 0)) % 128;
-    Number {
-        nature,
-        count,
-        value: value(piece(w, b':', 1)),
-    }
+// At least one byte, and each a digit.
+pub(crate) fn numeric(w: &[u8]) -> bool {
+    !w.is_empty() && w.iter().all(|b| b.is_ascii_digit())
 }
 
-// The digits of a number, or its count and value.
+// As a number of 8 bits, or 0.
+fn code(w: &[u8]) -> u8 {
+    u8::try_from(value(w)).unwrap_or(0)
+}
+
+// As a number of 32 bits, or 0.
+fn seconds(w: &[u8]) -> u32 {
+    u32::try_from(value(w)).unwrap_or(0)
+}
+
+// The digits of a number, or its count and value. A record has seven bits for a count: a greater one makes a line unknown.
 fn digits(nature: Nature, w: &[u8]) -> Number {
-    if find(w, 0, b':') < w.len() {
-        return counted(nature, w);
-    }
-    Number {
-        nature,
-        count: small(w.len() as u64),
-        value: value(w),
+    match w.iter().position(|b| *b == b':') {
+        Some(i) => Number {
+            nature,
+            count: code(&w[..i]) % 128,
+            value: value(&w[i + 1..]),
+        },
+        None => Number {
+            nature,
+            count: u8::try_from(w.len()).unwrap_or(0),
+            value: value(w),
+        },
     }
 }
 
 fn number(w: &[u8]) -> Number {
-    if is(w, b"-") {
-        return ABSENT;
+    match w {
+        b"-" => ABSENT,
+        [b'+', national @ ..] => digits(Nature::International, national),
+        _ => digits(Nature::National, w),
     }
-    if find(w, 0, b'+') < w.len() {
-        return digits(Nature::International, piece(w, b'+', 1));
-    }
-    digits(Nature::National, w)
 }
 
 fn role(w: &[u8]) -> u8 {
-    if is(w, b"originating") {
-        return 0;
+    match w {
+        b"originating" => 0,
+        b"destination" => 1,
+        _ => code(w),
     }
-    if is(w, b"destination") {
-        return 1;
-    }
-    code(w)
 }
 
 fn flag(w: &[u8]) -> u8 {
-    if is(w, b"transfer") {
-        return 1;
+    match w {
+        b"transfer" => 1,
+        b"option" => 2,
+        b"subscribed" => 4,
+        b"interaction" => 8,
+        b"case-d" => 16,
+        _ => 0,
     }
-    if is(w, b"option") {
-        return 2;
-    }
-    if is(w, b"subscribed") {
-        return 4;
-    }
-    if is(w, b"interaction") {
-        return 8;
-    }
-    if is(w, b"case-d") {
-        return 16;
-    }
-    0
-}
-
-fn named_flags(w: &[u8]) -> u8 {
-    flag(piece(w, b',', 0))
-        | flag(piece(w, b',', 1))
-        | flag(piece(w, b',', 2))
-        | flag(piece(w, b',', 3))
-        | flag(piece(w, b',', 4))
 }
 
 fn flags(w: &[u8]) -> u8 {
     if numeric(w) {
         return code(w);
     }
-    named_flags(w)
+    w.split(|b| *b == b',').fold(0, |all, w| all | flag(w))
 }
 
 fn opening(line: &[u8]) -> Event {
@@ -97,19 +82,13 @@ fn opening(line: &[u8]) -> Event {
 }
 
 fn request(w: &[u8]) -> u8 {
-    if is(w, b"BASIC") {
-        return 0;
+    match w {
+        b"BASIC" => 0,
+        b"A" => 1,
+        b"B" => 2,
+        b"C" => 3,
+        _ => code(w),
     }
-    if is(w, b"A") {
-        return 1;
-    }
-    if is(w, b"B") {
-        return 2;
-    }
-    if is(w, b"C") {
-        return 3;
-    }
-    code(w)
 }
 
 fn ask(line: &[u8]) -> Event {
@@ -117,232 +96,129 @@ fn ask(line: &[u8]) -> Event {
 }
 
 fn told(w: &[u8]) -> u8 {
-    if is(w, b"ACCEPT") {
-        return 1;
+    match w {
+        b"ACCEPT" => 1,
+        b"ERROR" => 2,
+        b"REJECT" => 3,
+        b"CLEAR" => 4,
+        b"ANSWER" => 5,
+        _ => code(w),
     }
-    if is(w, b"ERROR") {
-        return 2;
-    }
-    if is(w, b"REJECT") {
-        return 3;
-    }
-    if is(w, b"CLEAR") {
-        return 4;
-    }
-    if is(w, b"ANSWER") {
-        return 5;
-    }
-    code(w)
 }
 
 fn access(line: &[u8]) -> Event {
     Event::FromAccess(told(word(line, 1)), code(word(line, 2)))
 }
 
-// A message that has no name is two words.
-fn name_words(line: &[u8]) -> usize
-    ensures { result ≤ 2 }
-{
-    if is(word(line, 0), b"MESSAGE") {
-        return 2;
-    }
-    1
-}
-
 fn kind(line: &[u8]) -> u8 {
-    let w = word(line, 0);
-    if is(w, b"IAM") {
-        return 1;
+    match word(line, 0) {
+        b"IAM" => 1,
+        b"ANM" => 2,
+        b"CON" => 3,
+        b"REL" => 4,
+        b"FAC" => 5,
+        _ => code(word(line, 1)),
     }
-    if is(w, b"ANM") {
-        return 2;
-    }
-    if is(w, b"CON") {
-        return 3;
-    }
-    if is(w, b"REL") {
-        return 4;
-    }
-    if is(w, b"FAC") {
-        return 5;
-    }
-    code(word(line, 1))
 }
 
 fn operation(w: &[u8]) -> u8 {
-    if is(w, b"SETUP") {
-        return 1;
+    match w {
+        b"SETUP" => 1,
+        b"ACTIVE" => 2,
+        b"CALLED" => 3,
+        _ => code(w),
     }
-    if is(w, b"ACTIVE") {
-        return 2;
-    }
-    if is(w, b"CALLED") {
-        return 3;
-    }
-    code(w)
 }
 
-// The number after REJECT, where one is there.
-fn reject(w: &[u8]) -> Component {
-    if numeric(w) {
-        return Component::Reject(code(w));
-    }
-    Component::Reject(0)
-}
-
-// Components 0 to 4 have words of their own.
-fn unnamed(number: u8, n: u8) -> Component {
-    if number < 5 {
-        return Component::Absent(n);
-    }
-    Component::Unknown(number, n)
-}
-
-// The component: its first word, and the two words after that.
+// The component: its first word, and the two words after that. Components 0 to 4 have words of their own.
 fn component(w: &[u8], next: &[u8], last: &[u8]) -> Component {
-    if is(w, b"NONE") {
-        return Component::Absent(code(next));
+    match w {
+        b"NONE" => Component::Absent(code(next)),
+        b"INVOKE" => Component::Invoke(operation(next)),
+        b"RESULT" => Component::Result(operation(next)),
+        b"ERROR" => Component::Error(code(next)),
+        // the number after REJECT, where one is there
+        b"REJECT" if numeric(next) => Component::Reject(code(next)),
+        b"REJECT" => Component::Reject(0),
+        b"COMPONENT" => match code(next) {
+            0..=4 => Component::Absent(code(last)),
+            number => Component::Unknown(number, code(last)),
+        },
+        _ => Component::Absent(0),
     }
-    if is(w, b"INVOKE") {
-        return Component::Invoke(operation(next));
-    }
-    if is(w, b"RESULT") {
-        return Component::Result(operation(next));
-    }
-    if is(w, b"ERROR") {
-        return Component::Error(code(next));
-    }
-    if is(w, b"REJECT") {
-        return reject(next);
-    }
-    if is(w, b"COMPONENT") {
-        return unnamed(code(next), code(last));
-    }
-    Component::Absent(0)
-}
-
-// Where the parts may begin: past the operation, which may be CALLED as a part may.
-fn parts_from(line: &[u8], k: usize) -> usize
-    requires { k ≤ 3 }
-{
-    let w = word(line, k);
-    if is(w, b"INVOKE") | is(w, b"RESULT") {
-        return k + 2;
-    }
-    k
-}
-
-// The first word from `from` on that is the name, or NOWHERE.
-fn place(line: &[u8], from: usize, name: &[u8]) -> usize {
-    let mut k = from;
-    while k < NOWHERE {
-        if is(word(line, k), name) {
-            return k;
-        }
-        k += 1;
-    }
-    NOWHERE
 }
 
 // A part's weight, where its name is there.
 fn part(line: &[u8], from: usize, name: &[u8], weight: u8) -> u8 {
-    if place(line, from, name) < NOWHERE {
-        return weight;
-    }
-    0
+    if has(line, from, name) { weight } else { 0 }
 }
 
-fn plain_parts(line: &[u8], from: usize) -> u8 {
+fn parts(line: &[u8], from: usize) -> u8 {
     part(line, from, b"TRANSFER", 1)
         | part(line, from, b"ACCEPTED", 2)
         | part(line, from, b"AS-TRANSFER", 4)
         | part(line, from, b"PARTIAL", 8)
-}
-
-fn valued_parts(line: &[u8], from: usize) -> u8 {
-    part(line, from, b"CALLING", 16)
+        | part(line, from, b"CALLING", 16)
         | part(line, from, b"CALLED", 32)
         | part(line, from, b"DURATION", 64)
         | part(line, from, b"PART", 128)
 }
 
-fn number_after(line: &[u8], from: usize, name: &[u8]) -> Number {
-    let k = place(line, from, name);
-    if k < NOWHERE {
-        return number(word(line, k + 1));
-    }
-    ABSENT
-}
-
-fn duration(line: &[u8], from: usize) -> u32 {
-    let k = place(line, from, b"DURATION");
-    if k < NOWHERE {
-        return seconds(word(line, k + 1));
-    }
-    0
-}
-
-// A message with its component and its parts, which begin no earlier than the word `from`.
-fn received(line: &[u8], cause: u8, component: Component, from: usize) -> Event {
+// A message, which has its cause at the word k, then its component and its parts.
+fn message_at(line: &[u8], k: usize) -> Event
+    requires { k ≤ 2 }
+{
+    let held = word(line, k + 1);
+    // an operation may be CALLED as a part may
+    let from = match held {
+        b"INVOKE" | b"RESULT" => k + 3,
+        _ => k + 1,
+    };
     Event::Received(Message {
         kind: kind(line),
-        cause,
-        component,
-        parts: plain_parts(line, from) | valued_parts(line, from),
-        calling: number_after(line, from, b"CALLING"),
-        called: number_after(line, from, b"CALLED"),
-        duration: duration(line, from),
+        cause: code(word(line, k)),
+        component: component(held, word(line, k + 2), word(line, k + 3)),
+        parts: parts(line, from),
+        calling: number(after(line, from, b"CALLING")),
+        called: number(after(line, from, b"CALLED")),
+        duration: seconds(after(line, from, b"DURATION")),
     })
 }
 
-fn message(line: &[u8]) -> Event {
-    let k = name_words(line);
-    let cause = code(word(line, k));
-    let held = component(word(line, k + 1), word(line, k + 2), word(line, k + 3));
-    received(line, cause, held, parts_from(line, k + 1))
-}
-
 fn guess(line: &[u8]) -> Event {
-    let w = word(line, 0);
-    if is(w, b"OPENING") {
-        return opening(line);
+    match word(line, 0) {
+        b"OPENING" => opening(line),
+        b"REQUEST" => ask(line),
+        b"ACCESS" => access(line),
+        b"EXPIRY" => Event::Expiry,
+        b"TIME" => Event::Time(seconds(word(line, 1))),
+        // a message that has no name is two words
+        b"MESSAGE" => message_at(line, 2),
+        _ => message_at(line, 1),
     }
-    if is(w, b"REQUEST") {
-        return ask(line);
-    }
-    if is(w, b"ACCESS") {
-        return access(line);
-    }
-    if is(w, b"EXPIRY") {
-        return Event::Expiry;
-    }
-    if is(w, b"TIME") {
-        return Event::Time(seconds(word(line, 1)));
-    }
-    message(line)
 }
 
 // Known, if the line says it.
-fn checked(line: &[u8], w: Where, e: Event) -> Parsed
+fn checked(line: &[u8], w: Where, e: Event) -> Option<(Where, Event)>
     ensures { Right line.now result }
 {
-    if files::says(line, w, e) {
-        return Parsed::Known(w, e);
-    }
-    Parsed::Unknown
+    files::says(line, w, e).then_some((w, e))
 }
 
 // Where the first word is SLOT, the second is its number, and the words of the event come after them.
-pub(crate) fn event_of(line: &[u8]) -> Parsed
+pub(crate) fn event_of(line: &[u8]) -> Option<(Where, Event)>
     ensures { Right line.now result }
 {
     // the words of a slot and an event have fewer bytes, and a longer line need not be gone through
     if 674 <= line.len() {
-        return Parsed::Unknown;
+        return None;
     }
-    if is(word(line, 0), b"SLOT") {
-        let from = start(line, b' ', 2);
-        return checked(line, Where::Slot(slot(word(line, 1))), guess(&line[from..]));
+    let mut words = line.splitn(3, |b| *b == b' ');
+    match (words.next(), words.next(), words.next()) {
+        (Some(b"SLOT"), Some(w), Some(rest)) => {
+            let slot = u16::try_from(value(w)).unwrap_or(0);
+            checked(line, Where::Slot(slot), guess(rest))
+        }
+        _ => checked(line, Where::Plain, guess(line)),
     }
-    checked(line, Where::Plain, guess(line))
 }

@@ -1,11 +1,13 @@
 -- Hexadecimal text, written octet by octet and read byte by byte: what each turn of the loops keeps.
 -- Assumes nothing.
-use Rattle.std.proofs.Common.{◌≡◌, ℕ, ◌+◌, ◌-◌, ◌*◌, ◌<◌, ◌≤◌, List, [], ◌∷◌, ◌++◌, length, get_or, drop, sym, refl, ap, ◌∙◌, append_assoc, append-nil, add-one, length-drop, drop_of_length-le, drop-cons}
+use Rattle.std.proofs.Common.{◌≡◌, ℕ, ◌+◌, ◌-◌, ◌*◌, ◌<◌, ◌≤◌, Option, None, Some, List, [], ◌∷◌, ◌++◌, length, get_or, drop, sym, refl, ap, ◌∙◌, append_assoc, append-nil, add-one, length-drop, drop_of_length-le, drop-cons, arith}
 use Rattle.text.specs.Text.{Put}
-use Rattle.text.proofs.Cases.{yes_lt, no_lt, yes_eq, no_eq}
+use Rattle.text.proofs.Cases.{yes_lt, no_lt, no_eq, both_lt, both_eq}
 use Rattle.text.proofs.Laws.{put_none, put_after, put_as}
-use Rattle.wireline.specs.Hex.{octet_text, end_text, hex_text, blank_of, digit_of, meaning_of}
+use Rattle.wireline.specs.Hex.{octet_text, end_text, hex_text, digit_of, meaning_of}
 use Rattle.wireline.specs.Hex.{Meant, nothing, octets, before, meant_by, meant_from, hexed_of, Laid}
+use Rattle.wireline.specs.declared.hex.HexByte.{HexByte}
+use Rattle.wireline.specs.declared.hex.HexByte.TheVariants.{Digit, Blank, Other}
 
 next : (s : List ℕ) (i : ℕ) → i < length s → drop i s ≡ get_or s i 0 ∷ drop (i + 1) s
 next s i h = drop-cons s i 0 h ∙ ap (λ (k : ℕ). get_or s i 0 ∷ drop k s) (sym (add-one i))
@@ -64,87 +66,111 @@ unfolding before
 joined_all [] u = refl
 joined_all (b ∷ t) u = ap (before b) (joined_all t u)
 
-pub record Reading (s old new : List ℕ) (half to i : ℕ) : Type 0 where
+pub record Reading (s old new : List ℕ) (half : Option ℕ) (to i : ℕ) : Type 0 where
   pub said : List ℕ
   pub put : Put old 0 said new to
   pub all : joined said (meant_from half (drop i s)) ≡ hexed_of s
 
-pub reading_none : (s old : List ℕ) → Reading s old old 16 0 0
+pub reading_none : (s old : List ℕ) → Reading s old old None 0 0
 unfolding hexed_of
 reading_none s old = record { said = []; put = put_none old 0; all = refl }
 
-module _ (s old new : List ℕ) (half to i : ℕ) (r : Reading s old new half to i) where
+module _ (s old new : List ℕ) (half : Option ℕ) (to i : ℕ) (r : Reading s old new half to i) where
   module _ (h : length s ≤ i) where
-    ended : joined r.said (meant_from half []) ≡ hexed_of s
-    ended = ap (λ (l : List ℕ). joined r.said (meant_from half l)) (sym (drop_of_length-le s h)) ∙ r.all
+    ended : (o : Option ℕ) → half ≡ o → joined r.said (meant_from o []) ≡ hexed_of s
+    ended o e =
+        ap (λ (k : Option ℕ). joined r.said (meant_from k [])) (sym e)
+        ∙ ap (λ (l : List ℕ). joined r.said (meant_from half l)) (sym (drop_of_length-le s h)) ∙ r.all
 
-    pub reading_done : half ≡ 16 → Laid (hexed_of s) old new to
+    pub reading_done : half ≡ None → Laid (hexed_of s) old new to
     unfolding meant_from
     reading_done e =
-        record {
-          said = r.said;
-          meant =
-              sym ended ∙ ap (joined r.said) (sym (yes_eq half 16 (octets []) (octets []) nothing e refl))
-              ∙ joined_all r.said [] ∙ ap octets (append-nil r.said);
-          put = r.put;
-        }
+        record { said = r.said; meant = sym (ended None e) ∙ joined_all r.said [] ∙ ap octets (append-nil r.said); put = r.put }
 
-    pub reading_odd : (half ≡ 16 → ⊥) → hexed_of s ≡ nothing
+    pub reading_odd : (high : ℕ) → half ≡ Some high → hexed_of s ≡ nothing
     unfolding meant_from
-    reading_odd f =
-        sym ended ∙ ap (joined r.said) (sym (no_eq half 16 nothing (octets []) nothing f refl)) ∙ joined_nothing r.said
+    reading_odd high e = sym (ended (Some high) e) ∙ joined_nothing r.said
 
-  module _ (d : ℕ) (h : i < length s) (e : d ≡ meaning_of (get_or s i 0)) where
-    abbrev rest : ℕ → Meant
+  module _ (m : HexByte) (h : i < length s) (e : m ≡ meaning_of (get_or s i 0)) where
+    abbrev rest : Option ℕ → Meant
     rest k = meant_from k (drop (i + 1) s)
 
-    by : joined r.said (meant_by d half rest) ≡ hexed_of s
+    by : (d : HexByte) (o : Option ℕ) → m ≡ d → half ≡ o → joined r.said (meant_by d o rest) ≡ hexed_of s
     unfolding meant_from
-    by =
-        ap (λ (x : ℕ). joined r.said (meant_by x half rest)) e
+    by d o f g =
+        ap (λ (k : Option ℕ). joined r.said (meant_by d k rest)) (sym g)
+        ∙ ap (λ (x : HexByte). joined r.said (meant_by x half rest)) (sym f ∙ e)
         ∙ ap (λ (l : List ℕ). joined r.said (meant_from half l)) (sym (next s i h)) ∙ r.all
 
-    on : (m : Meant) → m ≡ meant_by d half rest → joined r.said m ≡ hexed_of s
-    on m f = ap (joined r.said) f ∙ by
-
-    pub reading_bad : d ≡ 17 → hexed_of s ≡ nothing
+    pub reading_other : m ≡ Other → hexed_of s ≡ nothing
     unfolding meant_by
-    reading_bad f = sym (on nothing (yes_eq _ _ _ _ _ f refl)) ∙ joined_nothing r.said
+    reading_other f = sym (by Other half f refl) ∙ joined_nothing r.said
 
-    module _ (f : d ≡ 17 → ⊥) where
-      pub reading_blank : 16 ≤ d → Reading s old new half to (i + 1)
-      unfolding meant_by
-      reading_blank g = record { said = r.said; put = r.put; all = on (rest half) (no_eq _ _ _ _ _ f (no_lt _ _ _ _ _ g refl)) }
+    pub reading_blank : m ≡ Blank → Reading s old new half to (i + 1)
+    unfolding meant_by
+    reading_blank f = record { said = r.said; put = r.put; all = by Blank half f refl }
 
-      pub reading_half : d < 16 → half ≡ 16 → Reading s old new d to (i + 1)
+    module _ (d : ℕ) (f : m ≡ Digit d) where
+      pub reading_half : half ≡ None → Reading s old new (Some d) to (i + 1)
       unfolding meant_by
-      reading_half g k =
-          record {
-            said = r.said;
-            put = r.put;
-            all = on (rest d) (no_eq _ _ _ _ _ f (yes_lt _ _ _ _ _ g (yes_eq _ _ _ _ _ k refl)));
-          }
+      reading_half g = record { said = r.said; put = r.put; all = by (Digit d) None f g }
 
-      pub reading_octet : (new' : List ℕ) (to' : ℕ) → d < 16 → (half ≡ 16 → ⊥) → Put new to ((half * 16 + d) ∷ []) new' to'
-          → Reading s old new' 16 to' (i + 1)
+      pub reading_octet : (new' : List ℕ) (to' high : ℕ) → half ≡ Some high → Put new to ((high * 16 + d) ∷ []) new' to'
+          → Reading s old new' None to' (i + 1)
       unfolding meant_by
-      reading_octet new' to' g k p =
-          let b = half * 16 + d in
+      reading_octet new' to' high g p =
+          let b = high * 16 + d in
           record {
             said = r.said ++ (b ∷ []);
             put = put_after p r.put;
-            all =
-                joined_more r.said b (rest 16)
-                ∙ on (before b (rest 16)) (no_eq _ _ _ _ _ f (yes_lt _ _ _ _ _ g (no_eq _ _ _ _ _ k refl)));
+            all = joined_more r.said b (rest None) ∙ by (Digit d) (Some high) f g;
           }
 
 -- ---- what a byte is
 
-module _ (b x : ℕ) (e : x ≡ blank_of b) where
-  pub meaning_blank : x ≡ 1 → 16 ≡ meaning_of b
-  unfolding meaning_of
-  meaning_blank f = yes_eq _ _ _ _ _ (sym e ∙ f) refl
+abbrev Is : ℕ → ℕ → Type 0
+Is b k = b ≡ k → ⊥
 
-  pub meaning_digit : (d : ℕ) → (x ≡ 1 → ⊥) → d ≡ digit_of b → d ≡ meaning_of b
-  unfolding meaning_of
-  meaning_digit d f g = no_eq _ _ _ _ _ (λ h. f (e ∙ h)) g
+-- one of the four
+pub blank_is : (b : ℕ) → (Is b 32 → Is b 9 → Is b 10 → Is b 13 → ⊥) → Blank ≡ meaning_of b
+unfolding meaning_of
+blank_is b h =
+    let P = λ (m : HexByte). Blank ≡ m in
+    both_eq b 32 P _ _ (λ _. refl)
+    (λ p. both_eq b 9 P _ _ (λ _. refl) (λ q. both_eq b 10 P _ _ (λ _. refl) (λ r. both_eq b 13 P _ _ (λ _. refl) (λ t. absurd (h p q r t)))))
+
+-- none of the four
+marked : (b : ℕ) (m : HexByte) → Is b 32 → Is b 9 → Is b 10 → Is b 13 → m ≡ digit_of b → m ≡ meaning_of b
+unfolding meaning_of
+marked b m p q r t e = no_eq _ _ _ _ _ p (no_eq _ _ _ _ _ q (no_eq _ _ _ _ _ r (no_eq _ _ _ _ _ t e)))
+
+pub number_is : (b : ℕ) → 48 ≤ b → b < 58 → Digit (b - 48) ≡ meaning_of b
+unfolding digit_of
+number_is b g l =
+    marked b _ (λ e. omega arith) (λ e. omega arith) (λ e. omega arith) (λ e. omega arith)
+    (no_lt _ _ _ _ _ g (yes_lt _ _ _ _ _ l refl))
+
+pub capital_is : (b : ℕ) → 65 ≤ b → b < 71 → Digit (b - 55) ≡ meaning_of b
+unfolding digit_of
+capital_is b g l =
+    marked b _ (λ e. omega arith) (λ e. omega arith) (λ e. omega arith) (λ e. omega arith)
+    (no_lt _ _ _ _ _ (omega arith) (no_lt _ _ _ _ _ (omega arith) (no_lt _ _ _ _ _ g (yes_lt _ _ _ _ _ l refl))))
+
+pub small_is : (b : ℕ) → 97 ≤ b → b < 103 → Digit (b - 87) ≡ meaning_of b
+unfolding digit_of
+small_is b g l =
+    marked b _ (λ e. omega arith) (λ e. omega arith) (λ e. omega arith) (λ e. omega arith)
+    (no_lt _ _ _ _ _ (omega arith)
+    (no_lt _ _ _ _ _ (omega arith) (no_lt _ _ _ _ _ (omega arith) (no_lt _ _ _ _ _ (omega arith) (no_lt _ _ _ _ _ g (yes_lt _ _ _ _ _ l refl))))))
+
+pub other_is : (b : ℕ) → Is b 32 → Is b 9 → Is b 10 → Is b 13 → (48 ≤ b → b < 58 → ⊥) → (65 ≤ b → b < 71 → ⊥) → (97 ≤ b → b < 103 → ⊥)
+    → Other ≡ meaning_of b
+unfolding digit_of
+other_is b p q r t x y z =
+    let P = λ (m : HexByte). Other ≡ m in
+    marked b Other p q r t
+    (both_lt b 48 P _ _ (λ _. refl)
+    (λ g. both_lt b 58 P _ _ (λ l. absurd (x g l))
+    (λ _. both_lt b 65 P _ _ (λ _. refl)
+    (λ g. both_lt b 71 P _ _ (λ l. absurd (y g l))
+    (λ _. both_lt b 97 P _ _ (λ _. refl) (λ g. both_lt b 103 P _ _ (λ l. absurd (z g l)) (λ _. refl)))))))

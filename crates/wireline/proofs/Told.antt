@@ -4,27 +4,14 @@ use Rattle.std.proofs.Common.{◌≡◌, ℕ, ◌+◌, ◌-◌, ◌*◌, ◌<◌
 use Rattle.text.specs.Text.{Put, ascii}
 use Rattle.text.proofs.Laws.{put_none, put_after, put_as}
 use Rattle.wire.specs.Grammar.{component_of}
-use Rattle.wire.specs.Texts.{component_text, written_of, leaves_of}
-use Rattle.wire.specs.Writable.{bad_of}
 use Rattle.wire.specs.Parameters.{Parameter, refused, holds, before, onward, walk_of, framed_of, held_in, parameter_of, told_of}
 use Rattle.wire.specs.declared.Component.{Component}
 use Rattle.wire.specs.declared.Whole.{Whole}
-use Rattle.wire.specs.declared.Written.{Written}
 use Rattle.wire.proofs.Walks.{read_on, walk_end, walk_on}
 use Rattle.wireline.specs.Answers.{refused_text, read_text, answer_text, own_line, lines_text, Held, walk_text, parameter_text}
-use Rattle.wireline.specs.Guess.{Right, WrittenAs}
-use Rattle.wireline.specs.declared.Parsed.{Parsed}
 use Rattle.wire.specs.declared.Refusal.{Refusal}
 use Rattle.wire.specs.Answers.{Answer, Frame, Told, refusal}
 use Rattle.std.specs.Prelude.{Ok, Err}
-
--- ---- a line's component, written
-
-pub wrote_as : (line old new : List ℕ) (f : ℕ) (c : Component) (w : Written) (p : Parsed) → Right line p → p ≡ Parsed.Known f c
-    → (w ≡ written_of (bad_of c) (component_text c) old) × (new ≡ leaves_of (bad_of c) (component_text c) old)
-    → WrittenAs line old new w
-wrote_as line old new f c w p r e (a, b) =
-    record { forms = f; component = c; said = subst (Right line) e r; answer = a; left = b }
 
 -- ---- one component
 

@@ -32,8 +32,7 @@ fn put_read(out: &mut [u8], c: Component, next: usize) -> usize
 pub(crate) fn put_component(out: &mut [u8], s: &[u8]) -> usize
     ensures { Put out.old 0 (answer_text (component_of s.now 0)) out.new result }
 {
-    let a = wire::read_component(s, 0);
-    match a {
+    match wire::read_component(s, 0) {
         Err(r) => put_refused(out, r.number, r.place),
         Ok((c, next)) => put_read(out, c, next),
     }
@@ -56,15 +55,13 @@ fn put_each(out: &mut [u8], s: &[u8]) -> usize
 {
     let mut to = 0;
     let mut place = 3;
+    // Kept: the next place is what the reader answers, and no count.
     while place < s.len() {
-        let a = wire::read_component(s, place);
-        match a {
-            Err(_) => return to,
-            Ok((c, next)) => {
-                to = put_own(out, to, c);
-                place = next;
-            }
-        }
+        let Ok((c, next)) = wire::read_component(s, place) else {
+            return to;
+        };
+        to = put_own(out, to, c);
+        place = next;
     }
     to
 }
@@ -74,13 +71,10 @@ pub(crate) fn put_parameter(out: &mut [u8], s: &[u8]) -> usize
     requires { length s.now ≤ 65536 }
     ensures { Put out.old 0 (parameter_text (parameter_of s.now)) out.new result }
 {
-    let w = wire::read_parameter(s);
-    match w {
+    match wire::read_parameter(s) {
         Err(r) => put_refused(out, r.number, r.place),
-        Ok(held) => match held {
-            Whole::Empty => text::put_word(out, 0, b"NONE\n"),
-            Whole::One(c) => put_own(out, 0, c),
-            Whole::Several(_) => put_each(out, s),
-        },
+        Ok(Whole::Empty) => text::put_word(out, 0, b"NONE\n"),
+        Ok(Whole::One(c)) => put_own(out, 0, c),
+        Ok(Whole::Several(_)) => put_each(out, s),
     }
 }

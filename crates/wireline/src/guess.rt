@@ -1,100 +1,48 @@
 // What component a line says. The guess goes by the words that tell fields apart and looks at nothing else; the line is understood if the
 // component's line, with its numbers in the forms in which they stand there, is that line. So a wrong guess makes a line not understood,
 // and a component that is written is the one that its line says.
-ghost use Rattle.std.specs.Prelude.{◌≡◌, ◌<◌, ◌≤◌, true};
+ghost use Rattle.std.specs.Prelude.{◌≡◌, ◌<◌, true};
 ghost use Rattle.wireline.specs.Guess.{Right, Wrote};
 ghost use Rattle.wireline.specs.Lines.{line_in};
 
-use crate::hex::meaning;
+use crate::hex::{HexByte, meaning};
 use crate::lines::put_line_in;
-use crate::pieces::{code, has, piece, seconds, small, value, word};
-use crate::{Done, Parsed};
-use wire::{Component, Number};
-
-// Past the last word: a line has at most 14.
-const NOWHERE: usize = 14;
+use pieces::{after, has, value, word};
+use wire::{Component, Number, Unwritten};
 
 // No part's word stands before the fourth; the operation CALLED does.
 const PARTS: usize = 3;
 
-const REJECT: u8 = 4;
-
-// Whether two texts are the same.
-pub(crate) fn same(a: &[u8], b: &[u8]) -> bool
-    ensures { result ≡ true → a.now ≡ b.now }
-{
-    if a.len() != b.len() {
-        return false;
-    }
-    let mut i = 0;
-    while i < a.len() {
-        if a[i] != b[i] {
-            return false;
-        }
-        i += 1;
-    }
-    true
-}
-
-fn kind(w: &[u8]) -> u8 {
-    if same(w, b"INVOKE") {
-        return 1;
-    }
-    if same(w, b"RESULT") {
-        return 2;
-    }
-    if same(w, b"ERROR") {
-        return 3;
-    }
-    REJECT
+// As a number of 8 bits, or 0.
+fn code(w: &[u8]) -> u8 {
+    u8::try_from(value(w)).unwrap_or(0)
 }
 
 // An operation or an error.
+// Kept: record's operation() has these words too; shared, they would need a definition that has them once more, and be longer.
 fn item(w: &[u8]) -> u8 {
-    if same(w, b"SETUP") {
-        return 1;
+    match w {
+        b"SETUP" => 1,
+        b"ACTIVE" => 2,
+        b"CALLED" => 3,
+        _ => code(w),
     }
-    if same(w, b"ACTIVE") {
-        return 2;
-    }
-    if same(w, b"CALLED") {
-        return 3;
-    }
-    code(w)
-}
-
-fn octet(high: u8, low: u8) -> u16 {
-    ((high % 16) as u16) * 16 + (low % 16) as u16
 }
 
 // Two hexadecimal digits, or none.
 fn id(w: &[u8]) -> u16 {
-    if w.len() == 2 {
-        return octet(meaning(w[0]), meaning(w[1]));
+    let [high, low] = *w else {
+        return 256;
+    };
+    match (meaning(high), meaning(low)) {
+        (HexByte::Digit(high), HexByte::Digit(low)) => u16::from(high * 16 + low),
+        _ => 256,
     }
-    256
-}
-
-// The first word that is the name of a part, or NOWHERE.
-fn place(line: &[u8], name: &[u8]) -> usize
-    ensures { result ≤ 14 }
-{
-    let mut k = PARTS;
-    while k < NOWHERE {
-        if same(word(line, k), name) {
-            return k;
-        }
-        k += 1;
-    }
-    NOWHERE
 }
 
 // A part's weight, where its name is there.
 fn part(line: &[u8], name: &[u8], weight: u8) -> u8 {
-    if place(line, name) < NOWHERE {
-        return weight;
-    }
-    0
+    if has(line, PARTS, name) { weight } else { 0 }
 }
 
 fn parts(line: &[u8]) -> u8 {
@@ -107,53 +55,46 @@ fn parts(line: &[u8]) -> u8 {
         | part(line, b"DURATION", 64)
 }
 
-// The word after a name.
-fn after<'a>(line: &'a [u8], name: &[u8]) -> &'a [u8] {
-    let k = place(line, name);
-    word(line, k + 1)
-}
-
-// The count of a number by its digits, or by its count and value.
-fn count(w: &[u8]) -> u8
-    ensures { result < 128 }
+// A number by its digits, or by its count and value.
+fn digits(w: &[u8]) -> Number
+    ensures { result.count < 128 }
 {
-    if has(w, b':') {
-        return code(piece(w, b':', 0)) % 128;
+    match w.iter().position(|b| *b == b':') {
+        Some(i) => Number {
+            count: code(&w[..i]) % 128,
+            value: value(&w[i + 1..]),
+        },
+        None => Number {
+            count: u8::try_from(w.len()).unwrap_or(0) % 128,
+            value: value(w),
+        },
     }
-    small(w.len() as u64) % 128
-}
-
-fn digits(w: &[u8]) -> u64 {
-    if has(w, b':') {
-        return value(piece(w, b':', 1));
-    }
-    value(w)
 }
 
 fn number(w: &[u8]) -> Number {
-    if has(w, b'+') {
-        let n = piece(w, b'+', 1);
-        return Number {
-            count: 128 + count(n),
-            value: digits(n),
-        };
-    }
-    Number {
-        count: count(w),
-        value: digits(w),
+    match w {
+        [b'+', national @ ..] => {
+            let Number { count, value } = digits(national);
+            Number {
+                count: 128 + count,
+                value,
+            }
+        }
+        _ => digits(w),
     }
 }
 
 // A form's weight, where a number is said by its count and value, as one without digits has to be.
 fn form(w: &[u8], weight: u8) -> u8 {
-    if has(w, b':') | same(w, b"") | same(w, b"+") {
-        return weight;
+    if w.contains(&b':') || matches!(w, b"" | b"+") {
+        weight
+    } else {
+        0
     }
-    0
 }
 
 fn forms(line: &[u8]) -> u8 {
-    form(after(line, b"CALLING"), 1) | form(after(line, b"CALLED"), 2)
+    form(after(line, PARTS, b"CALLING"), 1) | form(after(line, PARTS, b"CALLED"), 2)
 }
 
 fn component(line: &[u8], kind: u8, item: u8, id: u16) -> Component {
@@ -161,20 +102,22 @@ fn component(line: &[u8], kind: u8, item: u8, id: u16) -> Component {
         kind,
         item,
         parts: parts(line),
-        calling: number(after(line, b"CALLING")),
-        called: number(after(line, b"CALLED")),
-        duration: seconds(after(line, b"DURATION")),
+        calling: number(after(line, PARTS, b"CALLING")),
+        called: number(after(line, PARTS, b"CALLED")),
+        duration: u32::try_from(value(after(line, PARTS, b"DURATION"))).unwrap_or(0),
         id,
     }
 }
 
 // A reject has no word for an item.
 fn guess(line: &[u8]) -> Component {
-    let k = kind(word(line, 0));
-    if k == REJECT {
-        return component(line, k, 0, id(word(line, 2)));
-    }
-    component(line, k, item(word(line, 1)), id(word(line, 3)))
+    let kind = match word(line, 0) {
+        b"INVOKE" => 1,
+        b"RESULT" => 2,
+        b"ERROR" => 3,
+        _ => return component(line, 4, 0, id(word(line, 2))),
+    };
+    component(line, kind, item(word(line, 1)), id(word(line, 3)))
 }
 
 // Whether a line is that of a component, with its numbers in these forms.
@@ -183,34 +126,26 @@ fn says(line: &[u8], forms: u8, c: Component) -> bool
 {
     let mut words = [0u8; 354];
     let n = put_line_in(&mut words, 0, forms, c);
-    same(line, &words[..n])
+    line == &words[..n]
 }
 
-fn component_of(line: &[u8]) -> Parsed
+// The component that a line says, and the forms of its numbers.
+fn component_of(line: &[u8]) -> Option<(u8, Component)>
     ensures { Right line.now result }
 {
     // no component's line is longer, and one that is need not be gone through
     if 354 < line.len() {
-        return Parsed::Unknown;
+        return None;
     }
     let c = guess(line);
     let f = forms(line);
-    if says(line, f, c) {
-        return Parsed::Known(f, c);
-    }
-    Parsed::Unknown
+    says(line, f, c).then_some((f, c))
 }
 
 // Writes the component that a line says.
-pub(crate) fn write(line: &[u8], out: &mut [u8]) -> Done
+pub(crate) fn write(line: &[u8], out: &mut [u8]) -> Option<Result<usize, Unwritten>>
     ensures { Wrote line.now out.old out.new result }
 {
-    let p = component_of(line);
-    match p {
-        Parsed::Unknown => Done::Unknown,
-        Parsed::Known(_, c) => {
-            let w = wire::write_component(c, out);
-            Done::Known(w)
-        }
-    }
+    let (_, c) = component_of(line)?;
+    Some(wire::write_component(c, out))
 }

@@ -1,27 +1,23 @@
 // Octets as two hexadecimal digits each: read with blanks and line ends anywhere, written in capitals with one blank between.
 ghost use Rattle.std.specs.Prelude.{◌≡◌, ◌+◌, ◌^◌, ◌<◌, ◌≤◌, length};
 ghost use Rattle.text.specs.Text.{Put};
-ghost use Rattle.wireline.specs.Hex.{hex_digit, octet_text, end_text, hex_text, blank_of, digit_of, meaning_of, Says, hexed_of};
+ghost use Rattle.wireline.specs.Hex.{hex_digit, octet_text, end_text, hex_text, meaning_of, HasFourBits, Says, hexed_of};
 
-use crate::Hexed;
 use text::put;
 
-// What a byte of a text is, if it is no digit.
-const BLANK: u8 = 16;
-
-const OTHER: u8 = 17;
-
-// Where no first digit waits for its second.
-const NONE: u8 = 16;
+// What a byte of a text is: a digit, with its value; a blank or the end of a line, which do not count; or no part of such a text.
+#[derive(Clone, Copy)]
+pub(crate) enum HexByte {
+    Digit(u8),
+    Blank,
+    Other,
+}
 
 fn hex_digit(x: u8) -> u8
     requires { x < 16 }
     ensures { result ≡ hex_digit x }
 {
-    if x < 10 {
-        return 48 + x;
-    }
-    55 + x
+    if x < 10 { b'0' + x } else { b'A' + (x - 10) }
 }
 
 pub(crate) fn put_octet(out: &mut [u8], at: usize, b: u8) -> usize
@@ -40,9 +36,10 @@ fn put_end(out: &mut [u8], at: usize, left: usize) -> usize
     ensures upper_bound { result ≤ at + 1 }
 {
     if left == 0 {
-        return put(out, at, b'\n');
+        put(out, at, b'\n')
+    } else {
+        put(out, at, b' ')
     }
-    put(out, at, b' ')
 }
 
 // The octets as one line.
@@ -51,92 +48,46 @@ pub(crate) fn put_hex(out: &mut [u8], s: &[u8]) -> usize
     ensures { Put out.old 0 (hex_text s.now) out.new result }
 {
     let mut to = 0;
-    let mut i = 0;
-    while i < s.len() {
-        to = put_octet(out, to, s[i]);
-        i += 1;
-        to = put_end(out, to, s.len() - i);
+    for (i, b) in s.iter().enumerate() {
+        to = put_octet(out, to, *b);
+        to = put_end(out, to, s.len() - (i + 1));
     }
     to
 }
 
-fn is_blank(b: u8) -> u8
-    ensures { result ≡ blank_of b }
+pub(crate) fn meaning(b: u8) -> HexByte
+    ensures value { result ≡ meaning_of b }
+    ensures digit { HasFourBits result }
 {
-    if b == 32 {
-        return 1;
+    match b {
+        b' ' | b'\t' | b'\n' | b'\r' => HexByte::Blank,
+        b'0'..=b'9' => HexByte::Digit(b - b'0'),
+        b'A'..=b'F' => HexByte::Digit(b - (b'A' - 10)),
+        b'a'..=b'f' => HexByte::Digit(b - (b'a' - 10)),
+        _ => HexByte::Other,
     }
-    if b == 9 {
-        return 1;
-    }
-    if b == 10 {
-        return 1;
-    }
-    if b == 13 {
-        return 1;
-    }
-    0
 }
 
-fn digit(b: u8) -> u8
-    ensures { (result ≡ digit_of b) × (result ≤ 17) }
-{
-    if b < 48 {
-        return OTHER;
-    }
-    if b < 58 {
-        return b - 48;
-    }
-    if b < 65 {
-        return OTHER;
-    }
-    if b < 71 {
-        return b - 55;
-    }
-    if b < 97 {
-        return OTHER;
-    }
-    if b < 103 {
-        return b - 87;
-    }
-    OTHER
-}
-
-// The value of a digit, BLANK or OTHER.
-pub(crate) fn meaning(b: u8) -> u8
-    ensures { (result ≡ meaning_of b) × (result ≤ 17) }
-{
-    if is_blank(b) == 1 {
-        return BLANK;
-    }
-    digit(b)
-}
-
-// The octets that a text says; those past the buffer's end are counted alone.
-pub(crate) fn octets(text: &[u8], out: &mut [u8]) -> Hexed
+// How many octets a text says, if it says octets; those past the buffer's end are counted alone.
+pub(crate) fn octets(text: &[u8], out: &mut [u8]) -> Option<usize>
     requires { length text.now ≤ 262144 }
     ensures { Says (hexed_of text.now) out.old out.new result }
 {
-    let mut half = NONE;
+    let mut half = None;
     let mut to = 0;
-    let mut i = 0;
-    while i < text.len() {
-        let d = meaning(text[i]);
-        if d == OTHER {
-            return Hexed::Bad;
-        }
-        i += 1;
-        if d < BLANK {
-            if half == NONE {
-                half = d;
-            } else {
-                to = put(out, to, half * 16 + d);
-                half = NONE;
+    for b in text {
+        match (meaning(*b), half) {
+            (HexByte::Other, _) => return None,
+            (HexByte::Blank, _) => {}
+            (HexByte::Digit(d), None) => half = Some(d),
+            (HexByte::Digit(d), Some(high)) => {
+                to = put(out, to, high * 16 + d);
+                half = None;
             }
         }
     }
-    if half == NONE {
-        return Hexed::Octets(to);
+    match half {
+        None => Some(to),
+        Some(_) => None,
     }
-    Hexed::Bad
 }

@@ -1,8 +1,8 @@
 // A component's line: its kind, its operation or error, its identifier, and its parts in bit order.
-ghost use Rattle.std.specs.Prelude.{◌+◌, ◌^◌, ◌<◌, ◌≤◌, length};
-ghost use Rattle.text.specs.Text.{Put};
-ghost use Rattle.wire.specs.Texts.{text_if};
-ghost use Rattle.wireline.specs.Lines.{value_text, digits_text, counted_text, number_text, party_text, duration_text};
+ghost use Rattle.std.specs.Prelude.{◌+◌, ◌^◌, ◌<◌, ◌≤◌, [], ◌++◌, length};
+ghost use Rattle.text.specs.Choose.{if_so};
+ghost use Rattle.text.specs.Text.{Put, ascii, numbered};
+ghost use Rattle.wireline.specs.Lines.{value_text, digits_text, counted_text};
 ghost use Rattle.wireline.specs.Lines.{flags_text, values_text, operation_text, with_operation, head_text, id_text, line_in, line_text};
 
 use crate::hex::put_octet;
@@ -29,15 +29,16 @@ pub(crate) fn put_value(out: &mut [u8], at: usize, n: u64) -> usize
 }
 
 // A word where its part is present.
-fn put_if(out: &mut [u8], at: usize, present: u8, word: &[u8]) -> usize
+fn put_if(out: &mut [u8], at: usize, present: bool, word: &[u8]) -> usize
     requires { at + length word.now < 2 ^ 61 }
-    ensures put { Put out.old at (text_if present word.now) out.new result }
+    ensures put { Put out.old at (if_so present word.now []) out.new result }
     ensures upper_bound { result ≤ at + length word.now }
 {
-    if present == 1 {
-        return text::put_word(out, at, word);
+    if present {
+        text::put_word(out, at, word)
+    } else {
+        at
     }
-    at
 }
 
 // A number by its digits, as many as its count.
@@ -46,9 +47,8 @@ fn put_digits(out: &mut [u8], at: usize, n: Number) -> usize
     ensures put { Put out.old at (digits_text n) out.new result }
     ensures upper_bound { result ≤ at + 128 }
 {
-    let count = (n.count % 128) as usize;
-    let to = put_if(out, at, n.count / 128, b"+");
-    text::put_digits(out, to, n.value, count)
+    let to = put_if(out, at, n.count / 128 == 1, b"+");
+    text::put_digits(out, to, n.value, usize::from(n.count % 128))
 }
 
 // A number by its count and its value.
@@ -57,45 +57,55 @@ fn put_counted(out: &mut [u8], at: usize, n: Number) -> usize
     ensures put { Put out.old at (counted_text n) out.new result }
     ensures upper_bound { result ≤ at + 40 }
 {
-    let mut to = put_if(out, at, n.count / 128, b"+");
-    to = text::put_dec(out, to, (n.count % 128) as u32);
+    let mut to = put_if(out, at, n.count / 128 == 1, b"+");
+    to = text::put_dec(out, to, u32::from(n.count % 128));
     to = text::put(out, to, b':');
     put_value(out, to, n.value)
 }
 
-fn put_number(out: &mut [u8], at: usize, counted: u8, n: Number) -> usize
+fn put_number(out: &mut [u8], at: usize, counted: bool, n: Number) -> usize
     requires { at < 2 ^ 60 }
-    ensures put { Put out.old at (number_text counted n) out.new result }
+    ensures put { Put out.old at (if_so counted (counted_text n) (digits_text n)) out.new result }
     ensures upper_bound { result ≤ at + 128 }
 {
-    if counted == 1 {
-        return put_counted(out, at, n);
+    if counted {
+        put_counted(out, at, n)
+    } else {
+        put_digits(out, at, n)
     }
-    put_digits(out, at, n)
 }
 
 // A word and a number where their part is present.
-fn put_party(out: &mut [u8], at: usize, present: u8, word: &[u8], counted: u8, n: Number) -> usize
+fn put_party(
+    out: &mut [u8],
+    at: usize,
+    present: bool,
+    word: &[u8],
+    counted: bool,
+    n: Number,
+) -> usize
     requires { at + length word.now < 2 ^ 60 }
-    ensures put { Put out.old at (party_text present word.now counted n) out.new result }
+    ensures put { Put out.old at (if_so present (word.now ++ if_so counted (counted_text n) (digits_text n)) []) out.new result }
     ensures upper_bound { result ≤ at + length word.now + 128 }
 {
-    if present == 1 {
+    if present {
         let to = text::put_word(out, at, word);
-        return put_number(out, to, counted, n);
+        put_number(out, to, counted, n)
+    } else {
+        at
     }
-    at
 }
 
-fn put_duration(out: &mut [u8], at: usize, present: u8, t: u32) -> usize
+fn put_duration(out: &mut [u8], at: usize, present: bool, t: u32) -> usize
     requires { at < 2 ^ 60 }
-    ensures put { Put out.old at (duration_text present t) out.new result }
+    ensures put { Put out.old at (if_so present (numbered (ascii " DURATION ") t) []) out.new result }
     ensures upper_bound { result ≤ at + 20 }
 {
-    if present == 1 {
-        return text::put_numbered(out, at, b" DURATION ", t);
+    if present {
+        text::put_numbered(out, at, b" DURATION ", t)
+    } else {
+        at
     }
-    at
 }
 
 // The parts that are words alone.
@@ -104,10 +114,10 @@ fn put_flags(out: &mut [u8], at: usize, parts: u8) -> usize
     ensures put { Put out.old at (flags_text parts) out.new result }
     ensures upper_bound { result ≤ at + 38 }
 {
-    let mut to = put_if(out, at, parts % 2, b" TRANSFER");
-    to = put_if(out, to, parts / 2 % 2, b" ACCEPTED");
-    to = put_if(out, to, parts / 4 % 2, b" AS-TRANSFER");
-    put_if(out, to, parts / 8 % 2, b" PARTIAL")
+    let mut to = put_if(out, at, parts % 2 == 1, b" TRANSFER");
+    to = put_if(out, to, parts / 2 % 2 == 1, b" ACCEPTED");
+    to = put_if(out, to, parts / 4 % 2 == 1, b" AS-TRANSFER");
+    put_if(out, to, parts / 8 % 2 == 1, b" PARTIAL")
 }
 
 // The parts that have a value.
@@ -116,18 +126,24 @@ fn put_values(out: &mut [u8], at: usize, forms: u8, c: Component) -> usize
     ensures put { Put out.old at (values_text forms c) out.new result }
     ensures upper_bound { result ≤ at + 293 }
 {
-    let calling = c.calling;
-    let called = c.called;
-    let mut to = put_party(out, at, c.parts / 16 % 2, b" CALLING ", forms % 2, calling);
+    let mut to = at;
     to = put_party(
         out,
         to,
-        c.parts / 32 % 2,
-        b" CALLED ",
-        forms / 2 % 2,
-        called,
+        c.parts / 16 % 2 == 1,
+        b" CALLING ",
+        forms % 2 == 1,
+        c.calling,
     );
-    put_duration(out, to, c.parts / 64 % 2, c.duration)
+    to = put_party(
+        out,
+        to,
+        c.parts / 32 % 2 == 1,
+        b" CALLED ",
+        forms / 2 % 2 == 1,
+        c.called,
+    );
+    put_duration(out, to, c.parts / 64 % 2 == 1, c.duration)
 }
 
 fn put_operation(out: &mut [u8], at: usize, operation: u8) -> usize
@@ -135,16 +151,12 @@ fn put_operation(out: &mut [u8], at: usize, operation: u8) -> usize
     ensures put { Put out.old at (operation_text operation) out.new result }
     ensures upper_bound { result ≤ at + 11 }
 {
-    if operation == 1 {
-        return text::put_word(out, at, b" SETUP");
+    match operation {
+        1 => text::put_word(out, at, b" SETUP"),
+        2 => text::put_word(out, at, b" ACTIVE"),
+        3 => text::put_word(out, at, b" CALLED"),
+        _ => text::put_numbered(out, at, b" ", u32::from(operation)),
     }
-    if operation == 2 {
-        return text::put_word(out, at, b" ACTIVE");
-    }
-    if operation == 3 {
-        return text::put_word(out, at, b" CALLED");
-    }
-    text::put_numbered(out, at, b" ", operation as u32)
 }
 
 fn put_with_operation(out: &mut [u8], at: usize, word: &[u8], operation: u8) -> usize
@@ -161,16 +173,12 @@ fn put_head(out: &mut [u8], at: usize, kind: u8, item: u8) -> usize
     ensures put { Put out.old at (head_text kind item) out.new result }
     ensures upper_bound { result ≤ at + 17 }
 {
-    if kind == 1 {
-        return put_with_operation(out, at, b"INVOKE", item);
+    match kind {
+        1 => put_with_operation(out, at, b"INVOKE", item),
+        2 => put_with_operation(out, at, b"RESULT", item),
+        3 => text::put_numbered(out, at, b"ERROR ", u32::from(item)),
+        _ => text::put_word(out, at, b"REJECT"),
     }
-    if kind == 2 {
-        return put_with_operation(out, at, b"RESULT", item);
-    }
-    if kind == 3 {
-        return text::put_numbered(out, at, b"ERROR ", item as u32);
-    }
-    text::put_word(out, at, b"REJECT")
 }
 
 fn put_id(out: &mut [u8], at: usize, id: u16) -> usize

@@ -1,10 +1,9 @@
--- The records stay within the buffer, and there are no more lines than bytes gone through.
+-- The records stay within the buffer.
 -- Assumes nothing.
-use Rattle.std.proofs.Common.{◌≡◌, ◌+◌, ◌-◌, ◌≤◌, length}
+use Rattle.std.proofs.Common.{◌≡◌, ◌≤◌, length}
 use Rattle.record.proofs.lines.record.Given as goal
 
-abbrev pub invariant-loop-at : goal.invariant-loop-at
-invariant-loop-at l = (length l.out ≡ length l.fn.out) × (l.to ≤ length l.fn.out) × (l.line ≤ l.at) × (l.at ≤ length l.text + 1)
-
-abbrev pub decreases-loop-at : goal.decreases-loop-at
-decreases-loop-at l = length l.text + 1 - l.at
+abbrev pub invariant-loop-i : goal.invariant-loop-i
+invariant-loop-i l =
+    (goal.iterator-loop-i).can_next l.i-iterator × (goal.iterator-loop-i).is_finite l.i-iterator
+    × (length l.out ≡ length l.fn.out) × (l.to ≤ length l.fn.out)

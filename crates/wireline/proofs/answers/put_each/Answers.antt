@@ -5,8 +5,8 @@ use Rattle.wireline.proofs.answers.put_each.Goals as goal
 pub loop-place-init : goal.loop-place-init
 loop-place-init c = (refl, omega arith, search (telling_none))
 
-pub returns-in-Err : goal.returns-in-Err
-returns-in-Err c = search (telling_refused)
+pub returns-in_default : goal.returns-in_default
+returns-in_default c = search (telling_refused)
 
 pub loop-place-smaller : goal.loop-place-smaller
 loop-place-smaller c = search (telling_less)

@@ -8,11 +8,11 @@ put_each-requires c = (search (several_held), search rules)
 pub returns-in-Err : goal.returns-in-Err
 returns-in-Err c = search (said_refused)
 
-pub returns-in-Empty : goal.returns-in-Empty
-returns-in-Empty c = search (said_none)
+pub returns-in-Ok-Empty : goal.returns-in-Ok-Empty
+returns-in-Ok-Empty c = search (said_none)
 
-pub returns-in-One : goal.returns-in-One
-returns-in-One c = search (said_one)
+pub returns-in-Ok-One : goal.returns-in-Ok-One
+returns-in-Ok-One c = search (said_one)
 
-pub returns-in-Several : goal.returns-in-Several
-returns-in-Several c = search (said_several)
+pub returns-in-Ok-Several : goal.returns-in-Ok-Several
+returns-in-Ok-Several c = search (said_several)

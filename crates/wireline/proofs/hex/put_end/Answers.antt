@@ -6,6 +6,6 @@ pub returns-then-left-eq0-clause-put : goal.returns-then-left-eq0-clause-put
 unfolding end_text
 returns-then-left-eq0-clause-put c = search puts
 
-pub returns-clause-put : goal.returns-clause-put
+pub returns-else-left-eq0-clause-put : goal.returns-else-left-eq0-clause-put
 unfolding end_text
-returns-clause-put c = search puts
+returns-else-left-eq0-clause-put c = search puts

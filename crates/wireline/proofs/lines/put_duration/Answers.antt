@@ -1,12 +1,11 @@
-use Rattle.wire.specs.Texts.{text_if}
-use Rattle.wireline.specs.Lines.{duration_text}
-use Rattle.text.proofs.Laws.{puts}
+use Rattle.text.specs.Choose.{if_so}
+use Rattle.text.proofs.Laws.{put_none}
 use Rattle.wireline.proofs.lines.put_duration.Goals as goal
 
-pub returns-then-present-eq1-clause-put : goal.returns-then-present-eq1-clause-put
-unfolding duration_text text_if
-returns-then-present-eq1-clause-put c = search puts
+pub returns-then-present-clause-put : goal.returns-then-present-clause-put
+unfolding if_so
+returns-then-present-clause-put c = rw c.if-present.true c.put_numbered.ensures.put
 
-pub returns-clause-put : goal.returns-clause-put
-unfolding duration_text text_if
-returns-clause-put c = search puts
+pub returns-else-present-clause-put : goal.returns-else-present-clause-put
+unfolding if_so
+returns-else-present-clause-put c = rw c.if-present.false (put_none _ _)

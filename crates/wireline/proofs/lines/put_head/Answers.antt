@@ -1,19 +1,20 @@
+use Rattle.std.proofs.Common.{arith}
 use Rattle.wireline.specs.Lines.{head_text}
-use Rattle.text.proofs.Laws.{puts}
+use Rattle.text.proofs.Laws.{put_yes, put_no}
 use Rattle.wireline.proofs.lines.put_head.Goals as goal
 
-pub returns-then-kind-eq1-clause-put : goal.returns-then-kind-eq1-clause-put
+pub returns-in-1-clause-put : goal.returns-in-1-clause-put
 unfolding head_text
-returns-then-kind-eq1-clause-put c = search puts
+returns-in-1-clause-put c = put_yes _ _ _ _ _ _ _ _ (omega arith) c.put_with_operation.ensures.put
 
-pub returns-then-kind-eq2-clause-put : goal.returns-then-kind-eq2-clause-put
+pub returns-in-2-clause-put : goal.returns-in-2-clause-put
 unfolding head_text
-returns-then-kind-eq2-clause-put c = search puts
+returns-in-2-clause-put c = put_no _ _ _ _ _ _ _ _ (λ e. omega arith) (put_yes _ _ _ _ _ _ _ _ (omega arith) c.put_with_operation-in-2.ensures.put)
 
-pub returns-then-kind-eq3-clause-put : goal.returns-then-kind-eq3-clause-put
+pub returns-in-3-clause-put : goal.returns-in-3-clause-put
 unfolding head_text
-returns-then-kind-eq3-clause-put c = search puts
+returns-in-3-clause-put c = put_no _ _ _ _ _ _ _ _ (λ e. omega arith) (put_no _ _ _ _ _ _ _ _ (λ e. omega arith) (put_yes _ _ _ _ _ _ _ _ (omega arith) (rw c.from.ensures at c.put_numbered.ensures.put)))
 
-pub returns-clause-put : goal.returns-clause-put
+pub returns-in_default-clause-put : goal.returns-in_default-clause-put
 unfolding head_text
-returns-clause-put c = search puts
+returns-in_default-clause-put c = put_no _ _ _ _ _ _ _ _ (λ e. omega arith) (put_no _ _ _ _ _ _ _ _ (λ e. omega arith) (put_no _ _ _ _ _ _ _ _ (λ e. omega arith) (c.put_word.ensures)))
