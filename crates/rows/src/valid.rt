@@ -1,5 +1,5 @@
 // Which calls the table of document 01 allows (else 9), and which events have their fields in range (else 3).
-ghost use Rattle.std.specs.Prelude.{◌||◌, not, ◌≡◌};
+ghost use Rattle.std.specs.Prelude.{◌≡◌};
 ghost use Rattle.rows.specs.Valid.{placed_of, ten_to, in_range, unmetered, tallied, metered_of, paying_there, paying_of};
 ghost use Rattle.rows.specs.Valid.{numbers_held, valid_of, number_there, number_absent, number_if, ordinal, first_false, opening_ranges, ask_ranges};
 ghost use Rattle.rows.specs.Valid.{code_ok, item_ok, parts_ok, carried_ranges, message_ranges, access_ranges, time_ranges, bad_field_of};
@@ -15,6 +15,7 @@ use meters::{Meters, Payer};
 
 // Ten to the count, for a count of at most 15; above that 0, so that no value lies below it. (A table would be laid out on the
 // stack at each use.)
+// Kept: by `pow` the records of a call are written in 2.03 of plain C's instructions (1.83 so), where at most twice is asked for.
 fn ten_to(count: u8) -> u64
     ensures { result ≡ ten_to count }
 {
@@ -205,11 +206,15 @@ fn code_ok(x: Component) -> bool
 fn item_ok(x: Component) -> bool
     ensures { result ≡ item_ok x }
 {
-    match x {
-        Component::Absent(n) | Component::Reject(n) => n == 0,
-        Component::Invoke(n) | Component::Result(n) => 1 <= n && n <= 3,
-        Component::Error(_) | Component::Unknown(..) => true,
-    }
+    matches!(
+        x,
+        Component::Absent(0)
+            | Component::Invoke(1..=3)
+            | Component::Result(1..=3)
+            | Component::Error(_)
+            | Component::Reject(0)
+            | Component::Unknown(..)
+    )
 }
 
 // Part 4 without part 2 is a bad field; so are parts that do not name a number or Duration which is there.
@@ -223,33 +228,25 @@ fn parts_ok(m: Message) -> bool
         && (has(m.parts, DURATION_PART) || m.duration == 0)
 }
 
-// In range where it has to be there. (Ten to the count is not looked for where no number is.)
-fn there_if(named: bool, n: Number) -> bool
-    ensures { result ≡ (not named || number_there n) }
-{
-    !named || number_there(n)
-}
-
 // What the parts name begins with field 6: the calling number, then the called number, which is 6 where it stands alone. The Duration may
 // be any.
 fn carried_bad(m: Message) -> Option<u8>
     ensures { result ≡ ordinal (first_false 6 (carried_ranges m)) }
 {
-    if !there_if(has(m.parts, CALLING_PART), m.calling) {
+    let calling = has(m.parts, CALLING_PART);
+    if calling && !number_there(m.calling) {
         Some(6)
-    } else if there_if(has(m.parts, CALLED_PART), m.called) {
-        None
-    } else if has(m.parts, CALLING_PART) {
-        Some(7)
+    } else if has(m.parts, CALLED_PART) && !number_there(m.called) {
+        Some(if calling { 7 } else { 6 })
     } else {
-        Some(6)
+        None
     }
 }
 
 pub fn message_bad(m: Message) -> Option<u8>
     ensures { result ≡ ordinal (first_false 1 (message_ranges m)) }
 {
-    if m.kind < IAM || FAC < m.kind {
+    if !matches!(m.kind, IAM..=FAC) {
         Some(1)
     } else if 127 < m.cause {
         Some(2)
@@ -267,7 +264,7 @@ pub fn message_bad(m: Message) -> Option<u8>
 pub fn access_bad(a: u8, n: u8) -> Option<u8>
     ensures { result ≡ ordinal (first_false 1 (access_ranges a n)) }
 {
-    if a < 1 || 5 < a {
+    if !matches!(a, 1..=5) {
         Some(1)
     } else if a != 2 && n != 0 {
         Some(2)
