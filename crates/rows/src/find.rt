@@ -4,8 +4,7 @@ ghost use Rattle.std.specs.Prelude.{◌≡◌};
 ghost use Rattle.rows.specs.Find.{vacant_of, originating_null_of, originating_setup_idle_of, wait_setup_of, originating_wait_answer_of};
 ghost use Rattle.rows.specs.Find.{originating_answered_idle_of, wait_active_of, active_of, destination_null_of, destination_setup_idle_of};
 ghost use Rattle.rows.specs.Find.{wait_setup_conf_of, setup_wait_called_of, destination_wait_answer_of, destination_answered_idle_of};
-ghost use Rattle.rows.specs.Find.{wait_active_conf_of, answered_wait_called_of, originating_setup_of, originating_answered_of, originating_of};
-ghost use Rattle.rows.specs.Find.{destination_setup_of, destination_answered_of, destination_of, row_for_of};
+ghost use Rattle.rows.specs.Find.{wait_active_conf_of, answered_wait_called_of, row_for_of};
 
 use crate::{Cue, Kind, Phase, RevState, Role, Row};
 
