@@ -6,8 +6,8 @@ use Rattle.text.proofs.put_dec.Goals as goal
 pub returns-then-n-lt10-clause-put : goal.returns-then-n-lt10-clause-put
 returns-then-n-lt10-clause-put c = search put_small
 
-pub returns-then-at-out-clause-put : goal.returns-then-at-out-clause-put
-returns-then-at-out-clause-put c = search put_all
+pub returns-then-out-at-clause-put : goal.returns-then-out-at-clause-put
+returns-then-out-at-clause-put c = put_past _ _ _ _ (omega arith) (omega arith)
 
-pub returns-else-at-out-clause-put : goal.returns-else-at-out-clause-put
-returns-else-at-out-clause-put c = put_past _ _ _ _ (omega arith) (omega arith)
+pub returns-clause-put : goal.returns-clause-put
+returns-clause-put c = search put_all
