@@ -4,13 +4,13 @@ ghost use Rattle.text.specs.Text.{Put};
 ghost use Rattle.std.specs.Prelude.{Some};
 ghost use Rattle.files.specs.Bodies.{read_by};
 ghost use Rattle.files.specs.Fit.{longest, answers, leaves};
-ghost use Rattle.files.specs.Listing.{slot_of, slot_framed, after_frame, is_slot, names_framed, answer_of, index_of, names_slots};
+ghost use Rattle.files.specs.Listing.{slot_of, slot_framed, is_slot, names_framed, answer_of, index_of, names_slots};
 ghost use Rattle.files.specs.Listing.{listing_by, listing_of};
 
 use crate::bodies::event_at;
 use crate::fit::{LONGEST, TOO_LONG};
-use crate::frames::frame;
 use crate::lines::{put_numbered_line, put_record};
+use crate::places::Records;
 use crate::{Frame, Unreadable, Where};
 use board::{NO_SUCH_SLOT, SLOTS};
 use rows::{Call, Outcome};
@@ -54,13 +54,6 @@ fn names_framed(f: Result<Frame, Unreadable>) -> bool
     f.is_ok_and(|frame| frame.acts.is_slot())
 }
 
-// The place after a record, `stay` where it cannot be read.
-fn after_frame(f: Result<Frame, Unreadable>, stay: usize) -> usize
-    ensures { result ≡ after_frame f stay }
-{
-    f.map_or(stay, |frame| frame.next)
-}
-
 // The place of a slot in the row of a listing: past the last slot stands a call that is never opened.
 #[tactic(auto, using(text::proofs::Cases::cases), unfolding(crate::specs::Listing::index_of))]
 fn index_of(slot: u16) -> usize
@@ -90,15 +83,13 @@ fn write(file: &[u8], slots: bool, out: &mut [u8]) -> Listed
     ensures slots_value { result.slots ≡ names_slots file.now }
 {
     let mut to = text::put_word(out, 0, b"REV 1\n");
-    let mut at = 0;
     let mut count = 0;
     let mut named = false;
     let mut call = Call::unopened();
     let mut row = [call; 65];
     // the place of the row whose call is in `call`, and may be newer there
     let mut held = 0;
-    while at < file.len() {
-        let f = frame(file, at);
+    for (at, f) in Records::of(file) {
         let slot = slot_framed(f);
         let index = index_of(slot);
         if index != held {
@@ -110,7 +101,6 @@ fn write(file: &[u8], slots: bool, out: &mut [u8]) -> Listed
         count += 1;
         named |= names_framed(f);
         to = put_record(out, to, count, slots, u32::from(slot), o);
-        at = after_frame(f, file.len());
         call = o.call;
     }
     to = put_numbered_line(out, to, b"END ", count);
