@@ -2,10 +2,12 @@
 ghost use Rattle.std.specs.Prelude.{◌≡◌, ◌+◌, ◌^◌, ◌<◌, length};
 ghost use Rattle.files.specs.Bytes.{byte_at, le_at};
 
+// Kept: a test and an index. By `s.get(i).copied().unwrap_or(0)` a listing counts 1 to 4 instructions more in a hundred (of messages
+// 2,775,425 for 2,673,953).
 pub(crate) fn byte(s: &[u8], i: usize) -> u8
     ensures { result ≡ byte_at s.now i }
 {
-    s.get(i).copied().unwrap_or(0)
+    if i < s.len() { s[i] } else { 0 }
 }
 
 // Bytes that are there: no test of each, so that a field is read at once.

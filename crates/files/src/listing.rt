@@ -41,17 +41,11 @@ impl Where {
     }
 }
 
-// The slot of a record by its frame: of one that cannot be read it is slot 0 that shows.
-fn slot_framed(f: Result<Frame, Unreadable>) -> u16
-    ensures { result ≡ slot_framed f }
+// Where a record acts by its frame: of one that cannot be read it is slot 0 that shows, as of a plain one.
+fn acts_framed(f: Result<Frame, Unreadable>) -> Where
+    ensures { (slot_of result ≡ slot_framed f) × (is_slot result ≡ names_framed f) }
 {
-    f.map_or(0, |frame| frame.acts.slot())
-}
-
-fn names_framed(f: Result<Frame, Unreadable>) -> bool
-    ensures { result ≡ names_framed f }
-{
-    f.is_ok_and(|frame| frame.acts.is_slot())
+    f.map_or(Where::Plain, |frame| frame.acts)
 }
 
 // The place of a slot in the row of a listing: past the last slot stands a call that is never opened.
@@ -90,7 +84,8 @@ fn write(file: &[u8], slots: bool, out: &mut [u8]) -> Listed
     // the place of the row whose call is in `call`, and may be newer there
     let mut held = 0;
     for (at, f) in Records::of(file) {
-        let slot = slot_framed(f);
+        let acts = acts_framed(f);
+        let slot = acts.slot();
         let index = index_of(slot);
         if index != held {
             row[held] = call;
@@ -99,7 +94,7 @@ fn write(file: &[u8], slots: bool, out: &mut [u8]) -> Listed
         }
         let o = answer(file, at, f, index < SLOTS, call);
         count += 1;
-        named |= names_framed(f);
+        named |= acts.is_slot();
         to = put_record(out, to, count, slots, u32::from(slot), o);
         call = o.call;
     }
