@@ -33,7 +33,7 @@ use Rattle.files.specs.declared.Unwritten.TheVariants.{BadField, NoRoom}
 use Rattle.files.proofs.BothWays.{record_length, record_range, slot_head_length, slotted_length}
 use Rattle.files.proofs.Records.{not_one, message_size}
 use Rattle.files.proofs.Same.{answered_of, held_of, HandedOver}
-use Rattle.std.specs.Prelude.{Option, None, Some, Ok, Err}
+use Rattle.std.specs.Prelude.{None}
 use Rattle.files.specs.declared.Unreadable.{Unreadable}
 
 -- ---- the bytes of a number

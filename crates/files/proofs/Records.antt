@@ -1,71 +1,35 @@
 -- What a reader's calls gave is what its definition reads; and where a record ends.
 -- Assumes nothing.
 use Rattle.std.proofs.Common.{◌≡◌, ℕ, zero, suc, ◌+◌, ◌*◌, ◌<◌, ◌≤◌, Bool, true, false, eqb, List, [], ◌∷◌, ◌++◌, length, sym, refl, ap, ◌∙◌, add_assoc, arith}
-use Rattle.std.specs.Int.{from_bool, from_le_bytes}
-use Rattle.std.specs.Prelude.{slice_index, slice_range, EachIndex}
-use Rattle.std.proofs.Common.{take}
-use Rattle.std.proofs.lemmas.Grind.{common_steps}
-use mir.Syntax.{w16, w32, w64}
-use Rattle.std.proofs.Common.{get_or, add-zero}
+use Rattle.std.specs.Int.{from_bool}
 use Rattle.rows.specs.Telephone.{absent}
 use Rattle.rows.specs.declared.Component.{Component}
 use Rattle.rows.specs.declared.Event.{Event}
 use Rattle.rows.specs.declared.Event.TheVariants.{Opening, Ask, FromAccess, Time}
 use Rattle.rows.specs.declared.Nature.{Nature}
 use Rattle.rows.specs.declared.Number.{Number}
-use Rattle.text.specs.Choose.{if_lt, if_eq, if_so}
-use Rattle.files.specs.declared.Frame.{Frame}
+use Rattle.text.specs.Choose.{if_lt, if_so}
 use Rattle.text.proofs.Cases.{yes_lt, no_lt, no_le, yes_eq, no_eq, both_lt, both_le, both_eq}
 use Rattle.files.specs.Bytes.{byte_at, le_at, part}
 use Rattle.files.specs.Bodies.{nature_of, count_of, number_if, message_from, opening_at, ask_at, component_of, message_at, access_at, time_at, event_at}
 use Rattle.files.specs.Bodies.{body_at, Reading, got, read_by, read_at, plain_at}
-use Rattle.files.specs.declared.Record.{Record}
 use Rattle.files.specs.Fields.{number_fields, carried_fields, message_fields, size_of, values_at}
 use Rattle.files.specs.Frames.{Framing, framed, length_with, length_of, plain_of, plain_frame, kindless_of, outer_of, in_slot, unless_stopped, slotted_frame, frame_at}
-use Rattle.files.specs.Places.{place_after}
 use Rattle.files.specs.declared.Where.{Where}
 use Rattle.std.specs.Prelude.{None, Some, Result as OkOrErr, Ok, Err}
 use Rattle.files.specs.declared.Unreadable.{Unreadable}
 use Rattle.files.specs.declared.Unreadable.TheVariants.{CutShort, BadLength, UnknownKind}
 
--- ---- a number by its bytes
+-- ---- a number by its halves
 
-pub field_there : (s rest field : List ℕ) (i w : ℕ) → rest ≡ slice_range s i (length s) → field ≡ take w rest → (k : ℕ) → k < length field
-    → slice_index field k ≡ byte_at s (i + k)
-field_there s rest field i w e f k h = grind (arith, common_steps)
+pub le_four : (s : List ℕ) (i a b : ℕ) → a ≡ le_at 2 s i → b ≡ le_at 2 s (i + 2) → a + 65536 * b ≡ le_at 4 s i
+unfolding le_at
+le_four s i a b e f = simp (e, f, add_assoc) (omega arith)
 
-module _ (s : List ℕ) (i : ℕ) (bytes : List ℕ) where
-  field_byte : (w k : ℕ) → length bytes ≡ w → EachIndex bytes (λ k. slice_index bytes k ≡ byte_at s (i + k)) → k < w → get_or bytes k 0 ≡ byte_at s (i + k)
-  field_byte w k l e h = e k (omega arith)
-
-  pub field_two : length bytes ≡ 2 → EachIndex bytes (λ k. slice_index bytes k ≡ byte_at s (i + k)) → from_le_bytes w16 bytes ≡ le_at 2 s i
-  unfolding le_at
-  field_two l e =
-      let a = field_byte 2 0 l e (omega arith) in
-      let b = field_byte 2 1 l e (omega arith) in
-      simp (a, b, add-zero) (omega arith)
-
-  pub field_four : length bytes ≡ 4 → EachIndex bytes (λ k. slice_index bytes k ≡ byte_at s (i + k)) → from_le_bytes w32 bytes ≡ le_at 4 s i
-  unfolding le_at
-  field_four l e =
-      let a = field_byte 4 0 l e (omega arith) in
-      let b = field_byte 4 1 l e (omega arith) in
-      let c = field_byte 4 2 l e (omega arith) in
-      let d = field_byte 4 3 l e (omega arith) in
-      simp (a, b, c, d, add-zero, add_assoc) (omega arith)
-
-  pub field_eight : length bytes ≡ 8 → EachIndex bytes (λ k. slice_index bytes k ≡ byte_at s (i + k)) → from_le_bytes w64 bytes ≡ le_at 8 s i
-  unfolding le_at
-  field_eight l e =
-      let a = field_byte 8 0 l e (omega arith) in
-      let b = field_byte 8 1 l e (omega arith) in
-      let c = field_byte 8 2 l e (omega arith) in
-      let d = field_byte 8 3 l e (omega arith) in
-      let f = field_byte 8 4 l e (omega arith) in
-      let g = field_byte 8 5 l e (omega arith) in
-      let h = field_byte 8 6 l e (omega arith) in
-      let j = field_byte 8 7 l e (omega arith) in
-      simp (a, b, c, d, f, g, h, j, add-zero, add_assoc) (omega arith)
+-- x, y: the halves as numbers of 64 bits
+pub le_eight : (s : List ℕ) (i a b x y : ℕ) → a ≡ le_at 4 s i → b ≡ le_at 4 s (i + 4) → x ≡ a → y ≡ b → x + 4294967296 * y ≡ le_at 8 s i
+unfolding le_at
+le_eight s i a b x y e f g h = simp (g, h, e, f, add_assoc) (omega arith)
 
 -- ---- a body's fields, as they stand one after another
 

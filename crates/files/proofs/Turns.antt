@@ -1,6 +1,6 @@
 -- The loops over the records of a file: what they keep, and what one turn does to it.
 -- Assumes nothing.
-use Rattle.std.proofs.Common.{◌≡◌, ℕ, zero, suc, ◌+◌, ◌-◌, ◌*◌, ◌<◌, ◌≤◌, Bool, true, false, ◌||◌, ltb, List, [], ◌∷◌, ◌++◌, length, get_or, set, replicate, sym, refl, ap, ◌∙◌, append_assoc, append-nil, arith}
+use Rattle.std.proofs.Common.{◌≡◌, ℕ, zero, suc, ◌+◌, ◌-◌, ◌*◌, ◌<◌, ◌≤◌, Bool, true, false, ◌||◌, ltb, List, [], ◌∷◌, ◌++◌, length, get_or, set, replicate, sym, refl, ap, ◌∙◌, subst, append_assoc, append-nil, arith}
 use Rattle.text.specs.Text.{Put, ascii}
 use Rattle.text.proofs.Cases.{yes_lt, no_lt, both_lt}
 use Rattle.text.proofs.Laws.{put_none, put_after, put_as}
@@ -16,14 +16,18 @@ use Rattle.files.specs.Bodies.{event_at, body_at, read_by, read_at}
 use Rattle.files.specs.Dump.{place_text, places_text, dump_of, longest_place}
 use Rattle.files.specs.Lines.{numbered_line, record_text, longest_record}
 use Rattle.files.specs.Listing.{slot_found, slot_framed, after_frame, names_slot, names_framed, answer_of, row_by, index_of, rest_of, records_of, listing_by, names_in, names_slots, listing_of}
-use Rattle.files.specs.Places.{place_after, places_from, places_of}
+use Rattle.files.specs.Places.{place_after, places_from, places_of, GoesOn}
+use Rattle.files.specs.declared.places.Records.{Records}
+use Rattle.std.specs.Iterator.{Yields, Drains}
+use Rattle.std.specs.Borrow.{Bor}
 use Rattle.files.specs.Frames.{frame_at}
 use Rattle.files.specs.Frames.{stop_number, Framing, framed}
-use Rattle.files.specs.Bodies.{Reading, got, stopped}
+use Rattle.files.specs.Bodies.{Reading}
 use Rattle.files.specs.declared.Where.{Where}
 use Rattle.files.proofs.Held.{Holds, holds_other, answered}
 use Rattle.files.proofs.Records.{Within, read_within, read_as}
-use Rattle.std.specs.Prelude.{Option, None, Some, Ok, Err}
+use Rattle.std.specs.Prelude.{None, Some, Result as OkOrErr, Ok, Err}
+use Rattle.files.specs.declared.Record.{Record}
 use Rattle.files.specs.declared.Unreadable.{Unreadable}
 
 or_false : (b : Bool) → (b || false) ≡ b
@@ -121,7 +125,7 @@ pub record Listed (s : List ℕ) (shown : Bool) (out₀ : List ℕ) (to₀ : ℕ
   pub so : So s out₀ to₀ (records_of s shown) longest_record (rest_of s shown n reached) out to at n
   pub names : (named || names_in s (places_from so.turns s at)) ≡ names_slots s
 
-pub listed_start : (s : List ℕ) (shown : Bool) (out₀ : List ℕ) (to₀ : ℕ) (c : Call) → c ≡ unopened_call → Listed s shown out₀ to₀ out₀ to₀ 0 0 false (replicate 65 c) 0 c
+listed_start : (s : List ℕ) (shown : Bool) (out₀ : List ℕ) (to₀ : ℕ) (c : Call) → c ≡ unopened_call → Listed s shown out₀ to₀ out₀ to₀ 0 0 false (replicate 65 c) 0 c
 unfolding records_of names_slots empty_row places_of so_start
 listed_start s shown out₀ to₀ c e =
     record {
@@ -200,15 +204,55 @@ module _ (s : List ℕ) (at next : ℕ) (f : Framing) (h : at < length s) (g : f
   pub frame_falls : length s - next < length s - at
   frame_falls = loop_falls s at next (Some (read_by s at f)) h (read_as s at f (Some (read_by s at f)) h g refl) (e ∙ after_by s at (length s) f)
 
-  pub listed_by : (shown : Bool) (out₀ out out' : List ℕ) (to₀ to to' n slot index : ℕ) (named named' b names : Bool) (row : List Call) (held : ℕ) (call : Call) (o : Outcome)
-      → Found s shown out₀ to₀ out to at n named index row held call
+  -- it is where an iterator over the records then stands
+  pub frame_on : next ≡ place_after (read_at s at) (length s)
+  frame_on = e ∙ after_by s at (length s) f ∙ ap (λ (r : Reading). place_after r (length s)) (read_as s at f (Some (read_by s at f)) h g refl)
+
+-- ---- a turn of a loop over an iterator
+
+-- where it begins
+begun : (file : Bor (List ℕ)) (of it : Records) → (of.file ≡ file) × (of.at ≡ 0) → it ≡ of → (it.file.now ≡ file.now) × (it.at ≡ 0)
+begun file of it e f =
+    (ap (λ (r : Records). r.file.now) f ∙ ap (λ (r : Bor (List ℕ)). r.now) e.0, ap (λ (r : Records). r.at) f ∙ e.1)
+
+-- it comes to the place and the frame where the iterator stood, which then stands behind them
+module _ (s : List ℕ) (before after : Records) (at : ℕ) (f : Framing) (q : before.file.now ≡ s) (g : GoesOn before (Some (at, f)) after) where
+  turn_file : after.file.now ≡ s
+  turn_file = ap (λ (r : Bor (List ℕ)). r.now) g.3 ∙ q
+
+  turn_within : at < length s
+  turn_within = rw (g.1, sym q) g.0
+
+  turn_frame : f ≡ frame_at s at
+  turn_frame = g.2 ∙ rw (g.1, q)
+
+  turn_next : after.at ≡ place_after (read_at s at) (length s)
+  turn_next = g.4 ∙ rw (g.1, q)
+
+-- ---- the listing, turn by turn
+
+pub listed_begin : (file : Bor (List ℕ)) (of it : Records) (shown : Bool) (out₀ : List ℕ) (to₀ : ℕ) (c : Call) → c ≡ unopened_call → (of.file ≡ file) × (of.at ≡ 0) → it ≡ of
+    → (it.file.now ≡ file.now) × Listed file.now shown out₀ to₀ out₀ to₀ it.at 0 false (replicate 65 c) 0 c
+listed_begin file of it shown out₀ to₀ c u e f =
+    let b = begun file of it e f in
+    (b.0, rw b.1 (listed_start file.now shown out₀ to₀ c u))
+
+module _ (s : List ℕ) (before after : Records) (at : ℕ) (f : Framing) (q : before.file.now ≡ s) (g : GoesOn before (Some (at, f)) after) where
+  pub listed_turn : (shown : Bool) (out₀ out out' : List ℕ) (to₀ to to' n slot index : ℕ) (named named' b names : Bool) (row : List Call) (held : ℕ) (call : Call) (o : Outcome)
+      → Found s shown out₀ to₀ out to before.at n named index row held call
       → slot ≡ slot_framed f → index ≡ index_of slot → b ≡ ltb index 64 → o ≡ answer_of (Some (read_by s at f)) b call
       → names ≡ names_framed f → named' ≡ (named || names)
       → Put out to (record_text (n + 1) shown slot o) out' to' → to' ≤ to + longest_record
-      → Listed s shown out₀ to₀ out' to' next (n + 1) named' row held o.call
-  listed_by shown out₀ out out' to₀ to to' n slot index named named' b names row held call o i u v t d w x p m =
-      listed_on s shown out₀ out out' to₀ to to' at next n slot index named named' b names row held call (Some (read_by s at f)) o i h
-      (read_as s at f (Some (read_by s at f)) h g refl) (u ∙ slot_by s at f) v t d (w ∙ names_by s at f) x p m (e ∙ after_by s at (length s) f)
+      → (after.file.now ≡ s) × Listed s shown out₀ to₀ out' to' after.at (n + 1) named' row held o.call
+  listed_turn shown out₀ out out' to₀ to to' n slot index named named' b names row held call o i u v t d w x p m =
+      let h = turn_within s before after at f q g in
+      let k : Some (read_by s at f) ≡ read_at s at = read_as s at f (Some (read_by s at f)) h (turn_frame s before after at f q g) refl in
+      let j : Found s shown out₀ to₀ out to at n named index row held call = rw g.1 i in (
+        turn_file s before after at f q g,
+        listed_on s shown out₀ out out' to₀ to to' at after.at n slot index named named' b names row held call (Some (read_by s at f)) o j h
+            k (u ∙ slot_by s at f) v t d (w ∙ names_by s at f) x p m
+            (turn_next s before after at f q g ∙ ap (λ (y : Reading). place_after y (length s)) (sym k)),
+      )
 
 pub listed_done : (s old out₀ out out' : List ℕ) (shown : Bool) (to₀ to at n r : ℕ) (named : Bool) (row : List Call) (held : ℕ) (call : Call) → Listed s shown out₀ to₀ out to at n named row held call
     → length s ≤ at → Put old 0 (ascii "REV 1\n") out₀ to₀ → Put out to (numbered_line (ascii "END ") n) out' r → Put old 0 (listing_by shown s) out' r
@@ -236,16 +280,34 @@ listed_as s a c shown i j e p = put_as (ap (λ (b : Bool). listing_by b s) e) p
 abbrev pub Dumped : List ℕ → List ℕ → ℕ → List ℕ → ℕ → ℕ → ℕ → Type 0
 Dumped s out₀ to₀ out to at n = So s out₀ to₀ (places_text s 0 (places_of s)) longest_place (places_text s n) out to at n
 
-pub dumped_start : (s out₀ : List ℕ) (to₀ : ℕ) → Dumped s out₀ to₀ out₀ to₀ 0 0
+dumped_start : (s out₀ : List ℕ) (to₀ : ℕ) → Dumped s out₀ to₀ out₀ to₀ 0 0
 dumped_start s out₀ to₀ = so_start s out₀ to₀ longest_place (places_text s 0)
 
-pub dumped_on : (s out₀ out out' : List ℕ) (to₀ to to' at next n : ℕ) (f : Reading) → Dumped s out₀ to₀ out to at n → at < length s
+dumped_on : (s out₀ out out' : List ℕ) (to₀ to to' at next n : ℕ) (f : Reading) → Dumped s out₀ to₀ out to at n → at < length s
     → f ≡ read_at s at → Put out to (place_text (n + 1) f at) out' to' → to' ≤ to + longest_place → next ≡ place_after f (length s)
     → Dumped s out₀ to₀ out' to' next (n + 1)
 unfolding places_text
 dumped_on s out₀ out out' to₀ to to' at next n f i h g p m e =
     let c = one_comes s at n i.turns h i.stands in
     so_step s at next f h g e out₀ (places_text s 0 (places_of s)) (place_text (n + 1) f at) out out' to₀ longest_place to to' n (places_text s n) (places_text s (n + 1)) i p m (λ ps. rw g) c.0 c.1
+
+pub dumped_begin : (file : Bor (List ℕ)) (of it : Records) (out₀ : List ℕ) (to₀ : ℕ) → (of.file ≡ file) × (of.at ≡ 0) → it ≡ of
+    → (it.file.now ≡ file.now) × Dumped file.now out₀ to₀ out₀ to₀ it.at 0
+dumped_begin file of it out₀ to₀ e f =
+    let b = begun file of it e f in
+    (b.0, rw b.1 (dumped_start file.now out₀ to₀))
+
+pub dumped_turn : (s out₀ out out' : List ℕ) (to₀ to to' n : ℕ) (before after : Records) (at : ℕ) (f : Framing) (r : OkOrErr Record Unreadable)
+    → (before.file.now ≡ s) × Dumped s out₀ to₀ out to before.at n → GoesOn before (Some (at, f)) after → r ≡ read_by s at f
+    → Put out to (place_text (n + 1) (Some r) at) out' to' → to' ≤ to + longest_place
+    → (after.file.now ≡ s) × Dumped s out₀ to₀ out' to' after.at (n + 1)
+dumped_turn s out₀ out out' to₀ to to' n before after at f r i g e p m =
+    let h = turn_within s before after at f i.0 g in
+    let d : Dumped s out₀ to₀ out to at n = rw g.1 i.1 in
+    let k : Some r ≡ read_at s at = read_as s at f (Some r) h (turn_frame s before after at f i.0 g) (ap (λ (x : OkOrErr Record Unreadable). Some x) e) in (
+      turn_file s before after at f i.0 g,
+      dumped_on s out₀ out out' to₀ to to' at after.at n (Some r) d h k p m (turn_next s before after at f i.0 g ∙ ap (λ (x : Reading). place_after x (length s)) (sym k)),
+    )
 
 pub dumped_done : (s old out₀ out : List ℕ) (to₀ to at n k : ℕ) → Dumped s out₀ to₀ out to at n → length s ≤ at → k ≡ length (places_of s) → Put old 0 (numbered_line (ascii "RECORDS ") k) out₀ to₀
     → Put old 0 (dump_of s) out to
@@ -255,29 +317,28 @@ dumped_done s old out₀ out to₀ to at n k i h e p =
 
 -- ---- the count of records
 
-pub record Counted (s : List ℕ) (at n : ℕ) : Type 0 where
-  pub turns : ℕ
-  pub left : n + length (places_from turns s at) ≡ length (places_of s)
-  pub stands : Stands s at n turns
+-- as many items come of an iterator as there are places from where it stands
+drained_from : (xs : List (ℕ × Framing)) (k : ℕ) (before last after : Records) → Yields GoesOn before xs last → GoesOn last None after
+    → length before.file.now ≤ before.at + k → length xs ≡ length (places_from k before.file.now before.at)
+drained_from [] k before last after y e h =
+    let l : length before.file.now ≤ before.at = subst (λ (r : Records). length r.file.now ≤ r.at) (sym y) e.0 in
+    ap length (places_done k before.file.now before.at l)
+drained_from (x ∷ xs) zero before last after (next, (l, p, f, q, n), y) e h = absurd (omega arith)
+drained_from (x ∷ xs) (suc k) before last after (next, (l, p, f, q, n), y) e h =
+    let s = before.file.now in
+    let on = onward (length s) before.at (read_at s before.at) (read_within s before.at) l in
+    let same : length next.file.now ≡ length s = ap (λ (r : Bor (List ℕ)). length r.now) q in
+    ap suc (drained_from xs k next last after y e (omega (arith, on, same, n, h))
+    ∙ ap (λ (r : Bor (List ℕ)). length (places_from k r.now next.at)) q
+    ∙ ap (λ (at : ℕ). length (places_from k s at)) n)
+    ∙ ap length (places_on k s before.at l)
 
-pub counted_start : (s : List ℕ) → Counted s 0 0
+pub drained_count : (s : List ℕ) (xs : List (ℕ × Framing)) (n : ℕ) (it : Records) → it.file.now ≡ s → it.at ≡ 0 → Drains GoesOn it xs → n ≡ length xs → n ≡ length (places_of s)
 unfolding places_of
-counted_start s = record { turns = length s; left = omega arith; stands = first s }
-
-pub counted_on : (s : List ℕ) (at next n : ℕ) (f : Reading) → Counted s at n → at < length s → f ≡ read_at s at → next ≡ place_after f (length s) → Counted s next (n + 1)
-counted_on s at next n f i h g e = go i.turns refl
-  where
-    go : (k : ℕ) → i.turns ≡ k → Counted s next (n + 1)
-    go zero t = absurd (omega (arith, i.stands.enough, t))
-    go (suc k) t =
-        record {
-          turns = k;
-          left = omega (arith, i.left, ap (λ (x : ℕ). length (places_from x s at)) t, ap length (one_less s at next f h g e k));
-          stands = steps s at next f h g e n k (rw t at i.stands);
-        }
-
-pub counted_done : (s : List ℕ) (at n : ℕ) → Counted s at n → length s ≤ at → n ≡ length (places_of s)
-counted_done s at n i h = omega (arith, i.left, ap length (places_done i.turns s at h))
+drained_count s xs n it q z (after, (last, y, e)) c =
+    c ∙ drained_from xs (length it.file.now) it last after y e (omega arith)
+    ∙ ap (λ (at : ℕ). length (places_from (length it.file.now) it.file.now at)) z
+    ∙ ap (λ (t : List ℕ). length (places_from (length t) t 0)) q
 
 -- a file has at most as many records as bytes
 most_places : (k : ℕ) (s : List ℕ) (at : ℕ) → length (places_from k s at) ≤ k

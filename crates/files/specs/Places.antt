@@ -1,8 +1,10 @@
 -- Where the records of a file stand.
 -- Assumes nothing.
-use Rattle.std.specs.Prelude.{ℕ, zero, suc, List, [], ◌∷◌, length, None, Some, Ok, Err}
+use Rattle.std.specs.Prelude.{ℕ, zero, suc, List, [], ◌∷◌, length, ◌≡◌, ◌<◌, ◌≤◌, Option, None, Some, Ok, Err, MatchOption}
 use Rattle.text.specs.Choose.{if_lt}
 use Rattle.files.specs.Bodies.{Reading, read_at}
+use Rattle.files.specs.Frames.{Framing, frame_at}
+use Rattle.files.specs.declared.places.Records.{Records}
 
 -- the place after what was found; where there is no record, or none that can be read, `stay`
 unfoldable pub place_after : Reading → ℕ → ℕ
@@ -19,3 +21,11 @@ places_from (suc k) s at = if_lt at (length s) (at ∷ places_from k s (place_af
 -- a record has a byte at least, so a file of n bytes has at most n
 unfoldable pub places_of : List ℕ → List ℕ
 places_of s = places_from (length s) s 0
+
+-- What an iterator over the records of a file gives: the place that it has reached and the frame there, and then it stands behind that
+-- record, at the file's end where it cannot be read; nothing at the end, where it stays.
+abbrev pub GoesOn : Records → Option (ℕ × Framing) → Records → Type 0
+GoesOn before given after =
+    MatchOption given ((length before.file.now ≤ before.at) × (after ≡ before))
+    (λ x. (before.at < length before.file.now) × (x.0 ≡ before.at) × (x.1 ≡ frame_at before.file.now before.at)
+    × (after.file ≡ before.file) × (after.at ≡ place_after (read_at before.file.now before.at) (length before.file.now)))

@@ -161,7 +161,11 @@ impl Where {
 }
 
 // A record by its frame.
-fn read_by(s: &[u8], at: usize, f: Result<Frame, Unreadable>) -> Result<Record, Unreadable>
+pub(crate) fn read_by(
+    s: &[u8],
+    at: usize,
+    f: Result<Frame, Unreadable>,
+) -> Result<Record, Unreadable>
     requires { at < 2 ^ 63 }
     ensures { result ≡ read_by s.now at f }
 {

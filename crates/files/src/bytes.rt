@@ -1,51 +1,74 @@
 // Fields of a file, least byte first. A place past the end reads as 0.
-ghost use Rattle.std.specs.Prelude.{◌≡◌, ◌+◌, ◌^◌, ◌<◌, ◌≤◌, length, slice_index, EachIndex};
+ghost use Rattle.std.specs.Prelude.{◌≡◌, ◌+◌, ◌^◌, ◌<◌, length};
 ghost use Rattle.files.specs.Bytes.{byte_at, le_at};
 
+// Kept: a test and an index. By `s.get(i).copied().unwrap_or(0)` a listing counts 1 to 4 instructions more in a hundred (of messages
+// 2,775,425 for 2,673,953).
 pub(crate) fn byte(s: &[u8], i: usize) -> u8
     ensures { result ≡ byte_at s.now i }
 {
-    s.get(i).copied().unwrap_or(0)
+    if i < s.len() { s[i] } else { 0 }
 }
 
-// The W bytes of a field. Where all are there, none is looked for by itself.
-#[tactic(auto, using(crate::proofs::Records::field_there))]
-fn field<const W: usize>(s: &[u8], i: usize) -> [u8; W]
-    requires { i + W ≤ 2 ^ 64 }
-    ensures { EachIndex result (λ k. slice_index result k ≡ byte_at s.now (i + k)) }
+// Bytes that are there: no test of each, so that a field is read at once.
+// Kept, here and below: a function for each width. One with the width as a parameter, whose bytes `from_le_bytes` takes, was proved, and a
+// listing then counts 3 to 7 instructions more in a hundred (of messages 2,902,198 for 2,724,622).
+#[tactic(auto, unfolding(crate::specs::Bytes::le_at))]
+fn two(s: &[u8], i: usize) -> u32
+    requires { i + 1 < length s.now }
+    ensures { (result ≡ le_at 2 s.now i) × (result < 65536) }
 {
-    if let Some(rest) = s.get(i..)
-        && let Some(field) = rest.first_chunk()
-    {
-        return *field;
-    }
-    let mut field = [0; W];
-    for k in 0..W {
-        field[k] = byte(s, i + k);
-    }
-    field
+    u32::from(s[i]) + 256 * u32::from(s[i + 1])
 }
 
-#[tactic(auto, using(crate::proofs::Records::field_two))]
+#[tactic(auto, using(crate::proofs::Records::le_four))]
+fn four(s: &[u8], i: usize) -> u32
+    requires { i + 3 < length s.now }
+    ensures { result ≡ le_at 4 s.now i }
+{
+    two(s, i) + 65536 * two(s, i + 2)
+}
+
+#[tactic(auto, using(crate::proofs::Records::le_eight))]
+fn eight(s: &[u8], i: usize) -> u64
+    requires { i + 7 < length s.now }
+    ensures { result ≡ le_at 8 s.now i }
+{
+    u64::from(four(s, i)) + 4294967296 * u64::from(four(s, i + 4))
+}
+
+#[tactic(auto, unfolding(crate::specs::Bytes::le_at))]
 pub fn le2(s: &[u8], i: usize) -> u32
     requires { i + 1 < 2 ^ 64 }
     ensures { (result ≡ le_at 2 s.now i) × (result < 65536) }
 {
-    u32::from(u16::from_le_bytes(field(s, i)))
+    if i + 1 < s.len() {
+        two(s, i)
+    } else {
+        u32::from(byte(s, i)) + 256 * u32::from(byte(s, i + 1))
+    }
 }
 
-#[tactic(auto, using(crate::proofs::Records::field_four))]
+#[tactic(auto, using(crate::proofs::Records::le_four))]
 pub(crate) fn le4(s: &[u8], i: usize) -> u32
     requires { i + 3 < 2 ^ 64 }
     ensures { result ≡ le_at 4 s.now i }
 {
-    u32::from_le_bytes(field(s, i))
+    if i + 3 < s.len() {
+        four(s, i)
+    } else {
+        le2(s, i) + 65536 * le2(s, i + 2)
+    }
 }
 
-#[tactic(auto, using(crate::proofs::Records::field_eight))]
+#[tactic(auto, using(crate::proofs::Records::le_eight))]
 pub(crate) fn le8(s: &[u8], i: usize) -> u64
     requires { i + 7 < 2 ^ 64 }
     ensures { result ≡ le_at 8 s.now i }
 {
-    u64::from_le_bytes(field(s, i))
+    if i + 7 < s.len() {
+        eight(s, i)
+    } else {
+        u64::from(le4(s, i)) + 4294967296 * u64::from(le4(s, i + 4))
+    }
 }

@@ -1,13 +1,13 @@
 // A dump of a file, for a volunteer who wants to see what the board wrote: each record's ordinal, its place, and what it says.
-ghost use Rattle.std.specs.Prelude.{◌≡◌, ◌+◌, ◌^◌, ◌<◌, ◌≤◌, length};
+ghost use Rattle.std.specs.Prelude.{◌≡◌, ◌+◌, ◌^◌, ◌<◌, ◌≤◌, length, Some};
 ghost use Rattle.text.specs.Text.{Put};
 ghost use Rattle.files.specs.Dump.{stop_text, found_text, place_text, longest_place, dump_of};
 ghost use Rattle.files.specs.Fit.{longest, answers, leaves};
 
+use crate::bodies::read_by;
 use crate::fit::{LONGEST, TOO_LONG};
-use crate::lent::found_at;
 use crate::lines::put_numbered_line;
-use crate::places::{count_records, place_after};
+use crate::places::{Records, count_records};
 use crate::words::put_entry;
 use crate::{Record, Unreadable};
 
@@ -24,15 +24,14 @@ fn put_stop(out: &mut [u8], at: usize, stop: Unreadable) -> usize
 }
 
 // What a record says, or why it cannot be read.
-fn put_found(out: &mut [u8], at: usize, found: Option<Result<Record, Unreadable>>) -> usize
+fn put_found(out: &mut [u8], at: usize, found: Result<Record, Unreadable>) -> usize
     requires { at < 2 ^ 57 }
-    ensures put { Put out.old at (found_text found) out.new result }
+    ensures put { Put out.old at (found_text (Some found)) out.new result }
     ensures upper_bound { result ≤ at + 674 }
 {
     match found {
-        None => at,
-        Some(Err(stop)) => put_stop(out, at, stop),
-        Some(Ok(record)) => put_entry(out, at, record.acts, record.event),
+        Err(stop) => put_stop(out, at, stop),
+        Ok(record) => put_entry(out, at, record.acts, record.event),
     }
 }
 
@@ -41,11 +40,11 @@ fn put_place(
     out: &mut [u8],
     to: usize,
     ordinal: u32,
-    found: Option<Result<Record, Unreadable>>,
+    found: Result<Record, Unreadable>,
     at: u32,
 ) -> usize
     requires { to < 2 ^ 56 }
-    ensures put { Put out.old to (place_text ordinal found at) out.new result }
+    ensures put { Put out.old to (place_text ordinal (Some found) at) out.new result }
     ensures upper_bound { result ≤ to + longest_place }
 {
     let mut end = text::put_dec(out, to, ordinal);
@@ -59,15 +58,11 @@ fn write(file: &[u8], out: &mut [u8]) -> usize
     requires { length file.now ≤ longest }
     ensures { Put out.old 0 (dump_of file.now) out.new result }
 {
-    let all = count_records(file);
-    let mut to = put_numbered_line(out, 0, b"RECORDS ", all as u32);
-    let mut at: usize = 0;
-    let mut count: u32 = 0;
-    while at < file.len() {
-        let found = found_at(file, at);
+    let mut to = put_numbered_line(out, 0, b"RECORDS ", count_records(file) as u32);
+    let mut count = 0;
+    for (at, f) in Records::of(file) {
         count += 1;
-        to = put_place(out, to, count, found, at as u32);
-        at = place_after(found, file.len());
+        to = put_place(out, to, count, read_by(file, at, f), at as u32);
     }
     to
 }

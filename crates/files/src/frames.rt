@@ -1,6 +1,6 @@
 // Framing: where a record ends and what kind it is, or why reading stops.
 ghost use Rattle.std.specs.Prelude.{◌≡◌, ◌+◌, ◌^◌, ◌<◌};
-ghost use Rattle.files.specs.Frames.{stop_number, length_of, plain_of, plain_frame, kindless_of, outer_of, in_slot, slotted_frame, frame_at};
+ghost use Rattle.files.specs.Frames.{stop_number, length_of, plain_of, plain_frame, kindless_of, outer_of, slotted_frame, frame_at};
 
 use crate::bytes::{byte, le2};
 use crate::{Frame, Unreadable, Where};
@@ -113,23 +113,19 @@ fn outer(n: usize, at: usize, len: u32, inner: u32) -> Result<(), Unreadable>
     Ok(())
 }
 
-// The frame of a record inside one of kind 7, as the frame of the whole.
-fn in_slot(slot: u16, inside: Result<Frame, Unreadable>) -> Result<Frame, Unreadable>
-    ensures { result ≡ in_slot slot inside }
-{
-    Ok(Frame {
-        acts: Where::Slot(slot),
-        ..inside?
-    })
-}
-
+// A record of kind 7: it ends where the one inside it does, which acts at its slot.
 #[tactic(auto, using(crate::proofs::Records::slotted_in, crate::proofs::Records::slotted_stop))]
 fn slotted_frame(s: &[u8], at: usize) -> Result<Frame, Unreadable>
     requires { at < 2 ^ 63 }
     ensures { result ≡ slotted_frame s.now at }
 {
     outer(s.len(), at, le2(s, at), le2(s, at + 6))?;
-    in_slot(le2(s, at + 4) as u16, plain_frame(s, at + 6))
+    let inside = plain_frame(s, at + 6)?;
+    let slot = le2(s, at + 4) as u16;
+    Ok(Frame {
+        acts: Where::Slot(slot),
+        ..inside
+    })
 }
 
 // A record of any kind.

@@ -1,5 +1,6 @@
 // A reader that remembers the bytes it was lent and its place in them, for a host that takes one record at a time. It is thin:
 // each function takes it apart and calls a function on slice and number, and says its result by the same definitions.
+// Kept: document 01 names the form, and it is no Iterator, since it says the same again after a record that cannot be read.
 ghost use Rattle.std.specs.Prelude.{◌≡◌, ◌-◌, length};
 ghost use Rattle.files.specs.Bodies.{read_at};
 ghost use Rattle.files.specs.Places.{place_after};

@@ -4,13 +4,13 @@ ghost use Rattle.text.specs.Text.{Put};
 ghost use Rattle.std.specs.Prelude.{Some};
 ghost use Rattle.files.specs.Bodies.{read_by};
 ghost use Rattle.files.specs.Fit.{longest, answers, leaves};
-ghost use Rattle.files.specs.Listing.{slot_of, slot_framed, after_frame, is_slot, names_framed, answer_of, index_of, names_slots};
+ghost use Rattle.files.specs.Listing.{slot_of, slot_framed, is_slot, names_framed, answer_of, index_of, names_slots};
 ghost use Rattle.files.specs.Listing.{listing_by, listing_of};
 
 use crate::bodies::event_at;
 use crate::fit::{LONGEST, TOO_LONG};
-use crate::frames::frame;
 use crate::lines::{put_numbered_line, put_record};
+use crate::places::Records;
 use crate::{Frame, Unreadable, Where};
 use board::{NO_SUCH_SLOT, SLOTS};
 use rows::{Call, Outcome};
@@ -41,24 +41,11 @@ impl Where {
     }
 }
 
-// The slot of a record by its frame: of one that cannot be read it is slot 0 that shows.
-fn slot_framed(f: Result<Frame, Unreadable>) -> u16
-    ensures { result ≡ slot_framed f }
+// Where a record acts by its frame: of one that cannot be read it is slot 0 that shows, as of a plain one.
+fn acts_framed(f: Result<Frame, Unreadable>) -> Where
+    ensures { (slot_of result ≡ slot_framed f) × (is_slot result ≡ names_framed f) }
 {
-    f.map_or(0, |frame| frame.acts.slot())
-}
-
-fn names_framed(f: Result<Frame, Unreadable>) -> bool
-    ensures { result ≡ names_framed f }
-{
-    f.is_ok_and(|frame| frame.acts.is_slot())
-}
-
-// The place after a record, `stay` where it cannot be read.
-fn after_frame(f: Result<Frame, Unreadable>, stay: usize) -> usize
-    ensures { result ≡ after_frame f stay }
-{
-    f.map_or(stay, |frame| frame.next)
+    f.map_or(Where::Plain, |frame| frame.acts)
 }
 
 // The place of a slot in the row of a listing: past the last slot stands a call that is never opened.
@@ -90,16 +77,15 @@ fn write(file: &[u8], slots: bool, out: &mut [u8]) -> Listed
     ensures slots_value { result.slots ≡ names_slots file.now }
 {
     let mut to = text::put_word(out, 0, b"REV 1\n");
-    let mut at = 0;
     let mut count = 0;
     let mut named = false;
     let mut call = Call::unopened();
     let mut row = [call; 65];
     // the place of the row whose call is in `call`, and may be newer there
     let mut held = 0;
-    while at < file.len() {
-        let f = frame(file, at);
-        let slot = slot_framed(f);
+    for (at, f) in Records::of(file) {
+        let acts = acts_framed(f);
+        let slot = acts.slot();
         let index = index_of(slot);
         if index != held {
             row[held] = call;
@@ -108,9 +94,8 @@ fn write(file: &[u8], slots: bool, out: &mut [u8]) -> Listed
         }
         let o = answer(file, at, f, index < SLOTS, call);
         count += 1;
-        named |= names_framed(f);
+        named |= acts.is_slot();
         to = put_record(out, to, count, slots, u32::from(slot), o);
-        at = after_frame(f, file.len());
         call = o.call;
     }
     to = put_numbered_line(out, to, b"END ", count);

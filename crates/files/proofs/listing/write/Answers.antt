@@ -1,30 +1,30 @@
-use Rattle.std.proofs.Common.{sym, refl, ap, ◌∙◌}
+use Rattle.std.proofs.Common.{◌≤◌, length, sym, refl, ap, ◌∙◌, arith}
 use Rattle.files.specs.Listing.{index_of}
-use Rattle.files.proofs.Turns.{Found, listed_start, found_here, found_there, listed_by, listed_done, listed_names, frame_falls}
+use Rattle.files.proofs.Turns.{Found, listed_begin, found_here, found_there, listed_turn, listed_done, listed_names}
 use Rattle.files.proofs.listing.write.Goals as goal
 use Rattle.files.proofs.listing.write.Goals.{then-index-held, else-index-held}
 
 pub loop-at-init : goal.loop-at-init
-loop-at-init c = search listed_start
-
-pub loop-at-smaller : goal.loop-at-smaller
-loop-at-smaller c = search frame_falls
+loop-at-init c = listed_begin _ _ _ _ _ _ _ c.unopened-call.ensures c.of-at-items.ensures c.into_iter-at-iterator.ensures.into_iter_gives
 
 pub loop-at-preserved : goal.loop-at-preserved
 loop-at-preserved c =
     -- the call of the record's slot is held, whichever way that came
-    let held_now : Found c.args.file.now c.args.slots c.put_word-to.new.out c.put_word-to.result c.loop-at.out c.loop-at.to c.loop-at.at c.loop-at.count c.loop-at.named c.index_of-index.result c.if-index-held.row c.if-index-held.held c.if-index-held.call =
+    let held_now : Found c.args.file.now c.args.slots c.put_word-to.new.out c.put_word-to.result c.loop-at.out c.loop-at.to c.loop-at.at-iterator.at c.loop-at.count c.loop-at.named c.index_of-index.result c.if-index-held.row c.if-index-held.held c.if-index-held.call =
     elim c.if-index-held.branch [
-      | then-index-held w ↦ found_there c.loop-at.invariant _ _ _ _ _ c.index_of-index.ensures.1 w.call-is w.row-is w.held-is
-      | else-index-held w ↦ found_here c.loop-at.invariant _ _ _ _ w.if-index-held.false w.call-is w.row-is w.held-is
+      | then-index-held w ↦ found_there c.loop-at.invariant.1 _ _ _ _ _ c.index_of-index.ensures.1 w.call-is w.row-is w.held-is
+      | else-index-held w ↦ found_here c.loop-at.invariant.1 _ _ _ _ w.if-index-held.false w.call-is w.row-is w.held-is
     ] in
-    listed_by _ _ _ _ c.loop-at-test.true c.frame-f.ensures c.after_frame-at.ensures
-    _ _ _ _ _ _ _ _ _ _ _ _ _ _ _ _ _ _ held_now (c.from.ensures ∙ c.slot_framed-slot.ensures) (c.index_of-index.ensures.0 ∙ ap index_of (sym c.from.ensures)) refl c.answer-o.ensures
-    c.names_framed-named.ensures refl c.put_record-to.ensures.put c.put_record-to.ensures.upper_bound
+    listed_turn _ c.loop-at.at-iterator c.next.new.self c.in-Some.at c.in-Some.f c.loop-at.invariant.0 c.in-Some.ensures.steps
+    _ _ _ _ _ _ _ _ _ _ _ _ _ _ _ _ _ _ held_now (c.from.ensures ∙ c.slot-slot.ensures ∙ c.acts_framed-acts.ensures.0) (c.index_of-index.ensures.0 ∙ ap index_of (sym c.from.ensures)) refl c.answer-o.ensures
+    (c.is_slot-named.ensures ∙ c.acts_framed-acts.ensures.1) refl c.put_record-to.ensures.put c.put_record-to.ensures.upper_bound
 
 pub returns-clause-put : goal.returns-clause-put
 returns-clause-put c =
-    listed_done _ _ _ _ _ _ _ _ _ _ _ _ _ _ _ c.loop-at.invariant c.loop-at-test.false c.put_word-to.ensures c.put_numbered_line-to.ensures.put
+    let past : length c.args.file.now ≤ c.loop-at.at-iterator.at = omega (arith, ap length c.loop-at.invariant.0, c.in-None.ensures.steps.0) in
+    listed_done _ _ _ _ _ _ _ _ _ _ _ _ _ _ _ c.loop-at.invariant.1 past c.put_word-to.ensures c.put_numbered_line-to.ensures.put
 
 pub returns-clause-slots_value : goal.returns-clause-slots_value
-returns-clause-slots_value c = listed_names _ _ _ _ _ _ _ _ _ _ _ _ c.loop-at.invariant c.loop-at-test.false
+returns-clause-slots_value c =
+    let past : length c.args.file.now ≤ c.loop-at.at-iterator.at = omega (arith, ap length c.loop-at.invariant.0, c.in-None.ensures.steps.0) in
+    listed_names _ _ _ _ _ _ _ _ _ _ _ _ c.loop-at.invariant.1 past

@@ -1,14 +1,9 @@
-use Rattle.files.proofs.Turns.{counted_start, counted_on, counted_done, loop_falls}
+use Rattle.std.proofs.Common.{ap, ℕ, List}
+use Rattle.std.specs.Borrow.{Bor}
+use Rattle.files.proofs.Turns.{drained_count}
 use Rattle.files.proofs.places.count_records.Goals as goal
 
-pub loop-at-init : goal.loop-at-init
-loop-at-init c = counted_start _
-
-pub loop-at-smaller : goal.loop-at-smaller
-loop-at-smaller c = search loop_falls
-
-pub loop-at-preserved : goal.loop-at-preserved
-loop-at-preserved c = search counted_on
-
 pub returns : goal.returns
-returns c = search counted_done
+returns c =
+    let (xs, drains, n) = c.count.ensures.ran in
+    drained_count _ xs _ _ (ap (λ (r : Bor (List ℕ)). r.now) c.of.ensures.0) c.of.ensures.1 drains n
