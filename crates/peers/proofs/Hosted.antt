@@ -85,17 +85,11 @@ walk_read s message cause out new k h w = by (component_of s 3) refl
         (several_given message cause c (walk_of s next) out new k (given k) (fits_ranged message cause c (read_fits s 3 next c e)) (walk_fits s next)
         (subst (λ (p : Parameter). Keeps message cause p out 0 k new) on w) refl)
 
--- ---- what a row sends
+-- ---- an entry's parameter
 
 -- what the writer of `wire` says of a component
 abbrev Wrote : Component → List ℕ → Result ℕ Unwritten → List ℕ → Type 0
 Wrote c out w new = (w ≡ wireWritten (bad_of c) (parameter_text c) out) × (new ≡ leaves_of (bad_of c) (parameter_text c) out)
-
-pub sent_as : (n : Note) (id : ℕ) (out new : List ℕ) (c : Component) (w : Result ℕ Unwritten) → c ≡ sent_of n id → Wrote c out w new
-    → Sent n id out w new
-sent_as n id out new c w e f = subst (λ (x : Component). Wrote x out w new) e f
-
--- ---- an entry's parameter
 
 -- what the writer of `wire` answers, as `peers` tells it
 abbrev pub told_as : Result ℕ Unwritten → Result ℕ Refusal
