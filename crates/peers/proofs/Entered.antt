@@ -3,7 +3,7 @@
 use mathlib.Core.Path.{◌≡◌, refl, sym, ap, subst, ◌∙◌}
 use mathlib.Core.List.{List, [], ◌∷◌, ◌++◌, append-nil}
 use mathlib.Core.Logic.{◌↔◌}
-use Prim.Native.Nat.{ℕ, zero, suc, ◌+◌, ◌-◌, ◌*◌, ◌^◌, ◌≤◌, ◌<◌}
+use Prim.Native.Nat.{ℕ, zero, suc, ◌+◌, ◌-◌, ◌*◌, ◌≤◌, ◌<◌}
 use native.Mathlib.Nat.{zero-add}
 use native.Mathlib.Omega.{arith}
 use lib.ListN.{length, take, drop, set, length-append, length-drop}
@@ -31,7 +31,7 @@ use Rattle.peers.specs.Entries.{with_rest, gives_of, entry_of, or_none, entries_
 use Rattle.peers.specs.Entries.{given, ended_of, kept_of, Keeps, KeptWithin}
 use Rattle.peers.specs.Messages.{heard_of, received_of, no_component}
 use Rattle.peers.specs.declared.Refusal.{Refusal}
-use Rattle.peers.specs.declared.Refusal.TheVariants.{BadField, NoRoom, BadParameter}
+use Rattle.peers.specs.declared.Refusal.TheVariants.{BadParameter}
 use Rattle.peers.proofs.Ranges.{fits_ranged, none_ranged, carrier_small}
 use Rattle.wire.specs.Answers.{Answer, refusal}
 use Rattle.std.specs.Prelude.{Result, Ok, Err}

@@ -13,8 +13,6 @@ use Rattle.rows.proofs.Ranges.{none_told, some_told}
 use Rattle.rows.specs.declared.Event.{Event}
 use Rattle.rows.specs.declared.Event.TheVariants.{Opening, Ask, Received, FromAccess, Expiry, Time}
 use Rattle.rows.specs.declared.Message.{Message}
-use Rattle.rows.specs.declared.Note.{Note}
-use Rattle.rows.specs.declared.Number.{Number}
 use Rattle.wire.specs.Grammar.{component_of}
 use Rattle.wire.specs.Parameters.{Parameter, holds, before, onward, walk_of, framed_of, parameter_of, Bounded}
 use Rattle.wire.specs.Texts.{parameter_text}
@@ -25,14 +23,14 @@ use Rattle.wire.specs.declared.Component.{Component}
 use Rattle.wire.specs.declared.Unwritten.{Unwritten}
 use Rattle.peers.specs.declared.Refusal.{Refusal}
 use Rattle.wire.proofs.Fits.{FitsHeld, read_fits, walk_fits}
-use Rattle.wire.proofs.Places.{Placed, component_placed, parameter_most}
-use Rattle.wire.proofs.Walks.{read_on, walk_end, walk_on, good_walk, bad_refused}
+use Rattle.wire.proofs.Places.{parameter_most}
+use Rattle.wire.proofs.Walks.{walk_end, walk_on, good_walk, bad_refused}
 use Rattle.peers.specs.Entries.{with_rest, given, gives_of, or_none, KeptWithin, Keeps, read_gives, read_leaves}
 use Rattle.peers.specs.Entries.{in_record_told, nearest, in_record, sent_bad, send_gives, send_leaves}
-use Rattle.peers.specs.Messages.{no_component, carried_of, sent_of}
+use Rattle.peers.specs.Messages.{no_component, carried_of}
 use Rattle.peers.proofs.Entered.{Gave, gives_bad, Reads, several_given}
 use Rattle.peers.proofs.Ranges.{fits_ranged, none_ranged}
-use Rattle.peers.proofs.Same.{Entered, Sent}
+use Rattle.peers.proofs.Same.{Entered}
 use Rattle.wire.specs.Answers.{Answer, Frame, refusal}
 use Rattle.std.specs.Prelude.{Ok, Err}
 
@@ -85,17 +83,11 @@ walk_read s message cause out new k h w = by (component_of s 3) refl
         (several_given message cause c (walk_of s next) out new k (given k) (fits_ranged message cause c (read_fits s 3 next c e)) (walk_fits s next)
         (subst (λ (p : Parameter). Keeps message cause p out 0 k new) on w) refl)
 
--- ---- what a row sends
+-- ---- an entry's parameter
 
 -- what the writer of `wire` says of a component
 abbrev Wrote : Component → List ℕ → Result ℕ Unwritten → List ℕ → Type 0
 Wrote c out w new = (w ≡ wireWritten (bad_of c) (parameter_text c) out) × (new ≡ leaves_of (bad_of c) (parameter_text c) out)
-
-pub sent_as : (n : Note) (id : ℕ) (out new : List ℕ) (c : Component) (w : Result ℕ Unwritten) → c ≡ sent_of n id → Wrote c out w new
-    → Sent n id out w new
-sent_as n id out new c w e f = subst (λ (x : Component). Wrote x out w new) e f
-
--- ---- an entry's parameter
 
 -- what the writer of `wire` answers, as `peers` tells it
 abbrev pub told_as : Result ℕ Unwritten → Result ℕ Refusal

@@ -1,7 +1,7 @@
 -- What a host in C gives and gets: a parameter, and an entry for each of its components. An entry is an identifier, two bytes, least first,
 -- and a whole record of kind 3. What is given back is a number and a rest, as number + 256 * rest.
 -- Assumes nothing.
-use Rattle.std.specs.Prelude.{◌&&◌, ◌≡◌, List, [], ◌∷◌, ◌++◌, ℕ, ◌+◌, ◌*◌, ◌≤◌, leb, length, Option, None, Some, Result, Ok, Err}
+use Rattle.std.specs.Prelude.{◌&&◌, ◌≡◌, List, [], ◌∷◌, ◌++◌, ℕ, ◌+◌, ◌*◌, ◌≤◌, leb, length, None, Some, Result, Ok, Err}
 use Rattle.std.proofs.lemmas.List.Edits.{sets}
 use Rattle.text.specs.Choose.{if_lt, if_eq}
 use Rattle.files.specs.Bodies.{record_of, Reading, plain_at}

@@ -34,11 +34,15 @@ fn pair_byte(p: u64) -> u8
     (p / 10 + p % 10 * 16) as u8
 }
 
+// Where there is no room there is nothing to divide.
 fn put_octets(out: &mut [u8], at: usize, v: u64, m: usize) -> usize
     requires { at + m < 2 ^ 63 }
     ensures put { Put out.old at (octets_of m v) out.new result }
     ensures upper_bound { result ≤ at + m }
 {
+    if out.len() <= at {
+        return at + m;
+    }
     let mut rest = v;
     for left in (0..m).rev() {
         put(out, at + left, pair_byte(rest % 100));
