@@ -37,7 +37,6 @@ use Rattle.peers.proofs.Hosted.{parameter_fits, none_in}
 use Rattle.peers.proofs.Ranges.{fits_ranged}
 use Rattle.peers.proofs.Sendings
 use Rattle.peers.proofs.Sendings.{is_there}
-use Rattle.wire.specs.Answers.{Answer}
 use Rattle.std.specs.Prelude.{Ok}
 
 -- An error is one of REV's to the rows, which have the module's list, exactly if the wire has a place for it, where the module's errors are
