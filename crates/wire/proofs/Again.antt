@@ -20,7 +20,7 @@ use Rattle.wire.proofs.Back.{Holds, holds_right, holds_after, holds_take, head_h
 use Rattle.wire.proofs.Goods.{Good, Kinds, calls, answers, fails, rejects, Sized, written_good, parts_short}
 use Rattle.wire.proofs.Round.{invoke_back, result_back, error_back, reject_named, reject_nameless}
 use Rattle.wire.proofs.Walks.{walk_end, walk_on, good_walk}
-use Rattle.wire.specs.Answers.{Answer, Frame}
+use Rattle.wire.specs.Answers.{Answer}
 use Rattle.std.specs.Prelude.{Ok}
 
 six : (x : ℕ) → length (id_text x ++ (128 ∷ 1 ∷ 0 ∷ [])) ≡ 6

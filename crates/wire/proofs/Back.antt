@@ -15,7 +15,7 @@ use Rattle.wire.specs.Cursors.{absent_of, opened_of, inside_of, may_of, need_of,
 use Rattle.wire.specs.declared.Cursor.{Cursor}
 use Rattle.wire.proofs.Lengths.{head_near, from_full}
 use Rattle.wire.proofs.Steps.{look_same, size_fits, need_look, may_end, may_here, may_not, rest_none}
-use Rattle.wire.specs.Answers.{Head, element}
+use Rattle.wire.specs.Answers.{element}
 use Rattle.std.specs.Prelude.{Ok}
 
 -- ---- bytes that stand at a place

@@ -2,16 +2,13 @@
 -- Assumes nothing.
 use mathlib.Core.Path.{◌≡◌, refl, sym, ap, ◌∙◌}
 use mathlib.Core.List.{List}
-use Prim.Native.Nat.{ℕ, zero, suc, ◌+◌, ◌-◌, ◌*◌, ◌/◌, ◌%◌, ◌^◌, ◌≤◌, ◌<◌}
+use Prim.Native.Nat.{ℕ, zero, suc, ◌+◌, ◌-◌, ◌^◌, ◌≤◌, ◌<◌}
 use native.Mathlib.Nat.{pow-suc, pow-le-pow_right}
 use native.Mathlib.Numerals.{add-one}
 use native.Mathlib.Omega.{arith}
-use lib.ListN.{length}
-use Rattle.text.proofs.Cases.{yes_lt, no_lt, no_eq, both_lt, both_eq}
-use Rattle.wire.proofs.Lengths.{past_end}
+use Rattle.text.proofs.Cases.{both_lt}
 use Rattle.wire.specs.Bytes.{byte_at}
-use Rattle.wire.specs.Values.{module_by, module_at, paired_of, pair_on, pairs_at, absent_number, natured_of, digited_of, party_by, party_of, seconds_at}
-use Rattle.wire.specs.declared.Number.{Number}
+use Rattle.wire.specs.Values.{paired_of, pair_on, pairs_at}
 use Rattle.wire.specs.Answers.{Digits}
 use Rattle.std.specs.Prelude.{Some, None}
 

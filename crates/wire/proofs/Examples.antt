@@ -14,7 +14,7 @@ use Rattle.wire.specs.Parameters.{refused, holds, before, onward, walk_by, walk_
 use Rattle.wire.specs.Texts.{element_text, text_if, octets_of, padded_of, number_text, flag_text, party_text, duration_text, first_text, parties_text, last_text, parts_text, seq_text, id_text, rejected_text, code_text, invoke_text, held_text, result_text, error_text, reject_text, component_text}
 use Rattle.wire.specs.Writable.{range_ok, both_ok, item_ok, argument_ok, result_ok, places_ok, unnamed_ok, untimed_ok, parts_ok, number_ok, duration_ok, id_ok, field_if, fields_of, bad_from, bad_of, writable_of}
 use Rattle.wire.specs.declared.Component.{Component}
-use Rattle.wire.specs.Answers.{Answer, refusal}
+use Rattle.wire.specs.Answers.{refusal}
 use Rattle.std.specs.Prelude.{Ok, Err}
 
 abbrev invoke_bytes : List ℕ

@@ -5,7 +5,7 @@ use mathlib.Core.List.{List, [], ◌∷◌}
 use Prim.Native.Nat.{ℕ, zero, suc, ◌-◌, ◌/◌, ◌%◌, ◌≤◌, ◌<◌}
 use native.Mathlib.Omega.{arith}
 use lib.ListN.{length, take}
-use Rattle.text.proofs.Cases.{no_eq, both_lt, both_le, both_eq}
+use Rattle.text.proofs.Cases.{both_le, both_eq}
 use Rattle.wire.specs.Bytes.{byte_at}
 use Rattle.wire.specs.Heads.{head_of}
 use Rattle.wire.specs.Cursors.{absent_of, inside_of, may_of, need_of, closed_of}

@@ -6,7 +6,7 @@ use Prim.Native.Nat.{ℕ, zero, suc, ◌+◌, ◌-◌, ◌*◌, ◌%◌, ◌^◌
 use native.Mathlib.Numerals.{add-one}
 use native.Mathlib.Omega.{arith}
 use lib.ListN.{length, get_or-eq_default}
-use Rattle.text.proofs.Cases.{yes_lt, no_lt, yes_le, no_le, yes_eq, no_eq, both_lt, both_eq}
+use Rattle.text.proofs.Cases.{yes_lt, no_lt, yes_le, no_le, no_eq, both_lt, both_eq}
 use Rattle.wire.specs.Bytes.{byte_at, big_at, capped}
 use Rattle.wire.specs.Heads.{tag_by, tag_after, length_place, filled_of, length_of, head_from, head_of}
 use Rattle.wire.specs.Answers.{Head}

@@ -12,7 +12,7 @@ use Rattle.wire.specs.Heads.{filled_of, length_of, head_from, head_of}
 use Rattle.wire.specs.Elements.{own_of, enter, follow, element_by, sequence_by, element_of, sequence_of}
 use Rattle.wire.specs.declared.Element.{Element}
 use Rattle.wire.specs.declared.Refusal.{Refusal}
-use Rattle.wire.specs.Answers.{Head, Seen, element, refusal}
+use Rattle.wire.specs.Answers.{Head, Seen, refusal}
 use Rattle.std.specs.Prelude.{Ok, Err}
 use Rattle.std.specs.Prelude.{Bool, true, false}
 use Rattle.text.proofs.Cases.{yes_so, no_so, both_so}

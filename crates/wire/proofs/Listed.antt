@@ -6,7 +6,6 @@ use Prim.Native.Nat.{ℕ, ◌≤◌}
 use Rattle.wire.specs.Grammar.{component_of}
 use Rattle.wire.specs.declared.Component.{Component}
 use Rattle.wire.proofs.Fits.{Shaped, read_fits}
-use Rattle.wire.specs.Answers.{Answer}
 use Rattle.std.specs.Prelude.{Ok}
 
 -- an invoke or a result of an operation 1 to 3; an error 4 to 12; a reject

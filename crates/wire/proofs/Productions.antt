@@ -1,18 +1,11 @@
 -- What each return of the grammar's functions gave is what the grammar says.
 -- Assumes nothing.
-use mathlib.Core.Path.{◌≡◌, refl, sym, ap, subst, ◌∙◌}
+use mathlib.Core.Path.{◌≡◌, sym, ap, subst, ◌∙◌}
 use mathlib.Core.List.{List}
 use Prim.Native.Nat.{ℕ, ◌≤◌}
-use native.Mathlib.Omega.{arith}
 use lib.ListN.{length, take}
-use Rattle.text.proofs.Cases.{yes_eq, no_eq, both_eq}
 use Rattle.wire.specs.Heads.{head_of}
-use Rattle.wire.specs.Cursors.{may_of, need_of, checked_of}
-use Rattle.wire.specs.Values.{absent_number, party_of, clock_at, seconds_at}
-use Rattle.wire.specs.Grammar.{flag_part, first_part, party_at, partial_of, duration_of, last_of, invoke_of, result_of, error_of, named_of, name_of, reject_of, kind_of, whole_of, component_of}
-use Rattle.wire.specs.declared.Cursor.{Cursor}
-use Rattle.wire.specs.declared.Last.{Last}
-use Rattle.wire.specs.declared.Number.{Number}
+use Rattle.wire.specs.Grammar.{kind_of, whole_of, component_of}
 use Rattle.wire.proofs.Levels.{HeadWithin, head_within}
 use Rattle.wire.specs.declared.Element.{Element}
 use Rattle.wire.specs.Answers.{Answer, Head, refusal}

@@ -6,22 +6,21 @@ use Prim.Native.Nat.{ℕ, zero, suc, ◌+◌, ◌-◌, ◌%◌, ◌^◌, ◌≤�
 use native.Mathlib.Nat.{add-zero}
 use native.Mathlib.Omega.{arith}
 use lib.ListN.{length}
-use Rattle.text.proofs.Cases.{yes_lt, no_lt, yes_eq, no_eq, both_eq}
+use Rattle.text.proofs.Cases.{both_eq}
 use Rattle.wire.specs.Bytes.{byte_at}
 use Rattle.wire.specs.Heads.{head_of}
 use Rattle.wire.specs.Cursors.{absent_of, opened_of, inside_of, need_of, closed_of, checked_of}
-use Rattle.wire.specs.Values.{listed_at, absent_number, party_of, there_of, clock_at, seconds_at}
-use Rattle.wire.specs.Grammar.{any, code_of, flag_part, parts_of, made_of, bare_of, invoke_of, result_of, error_of}
-use Rattle.wire.specs.Quick.{begins_of, short_of, after_of, number_after, number_at, last_after, last_part, last_seconds, last_ok, number_ok, coded_at, SaidAs, ReadAs}
+use Rattle.wire.specs.Values.{listed_at}
+use Rattle.wire.specs.Grammar.{any, code_of, parts_of, made_of, bare_of, invoke_of, result_of, error_of}
+use Rattle.wire.specs.Quick.{begins_of, short_of, coded_at, SaidAs}
 use Rattle.wire.specs.declared.Component.{Component}
 use Rattle.wire.specs.declared.Cursor.{Cursor}
-use Rattle.wire.specs.declared.Number.{Number}
 use Rattle.wire.specs.declared.Said.{Said}
 use Rattle.wire.proofs.Back.{Holds, head_here, Ready, ready_opened, ready_absent, inside_opened, need_there, may_other, closed_there}
 use Rattle.wire.proofs.Round.{good_opened, answer_read, invoke_by, result_by, error_by}
 use Rattle.wire.proofs.Usual.{Begins, begins, bytes_of}
-use Rattle.wire.specs.Answers.{Answer, Form, Head, Parted, element}
-use Rattle.std.specs.Prelude.{Ok, Some, None}
+use Rattle.wire.specs.Answers.{Parted, element}
+use Rattle.std.specs.Prelude.{Ok, Some}
 use Rattle.std.specs.Prelude.{Bool, true, false, ◌&&◌}
 use Rattle.text.proofs.Cases.{both_so}
 

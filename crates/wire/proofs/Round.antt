@@ -6,7 +6,7 @@ use Prim.Native.Nat.{ℕ, zero, suc, ◌+◌, ◌*◌, ◌/◌, ◌%◌, ◌≤�
 use native.Mathlib.Omega.{arith}
 use lib.ListN.{length}
 use Rattle.text.specs.Choose.{if_eq, if_so}
-use Rattle.text.proofs.Cases.{no_lt, yes_eq, no_eq}
+use Rattle.text.proofs.Cases.{yes_eq, no_eq}
 use Rattle.wire.specs.Bytes.{byte_at}
 use Rattle.wire.specs.Cursors.{absent_of, opened_of, inside_of, may_of, need_of, closed_of, checked_of}
 use Rattle.wire.specs.Values.{module_by, module_at, listed_of, listed_at, absent_number, problem_tag}
@@ -20,7 +20,6 @@ use Rattle.wire.specs.declared.Said.{Said}
 use Rattle.wire.proofs.Back.{Holds, holds_left, holds_right, holds_first, holds_after, Ready, ready_opened, ready_absent, inside_opened, need_there, may_there, may_other, closed_there}
 use Rattle.wire.proofs.Goods.{Good, argument_inv, result_inv, parts_short}
 use Rattle.wire.proofs.Forms.{Says, invoke_other, invoke_called, result_called, result_other, off16, off32}
-use Rattle.wire.specs.Answers.{Answer}
 use Rattle.std.specs.Prelude.{Ok}
 use Rattle.std.specs.Prelude.{Bool, true}
 use Rattle.text.proofs.Cases.{yes_so}

@@ -7,7 +7,7 @@ use native.Mathlib.Nat.{add-zero}
 use native.Mathlib.Omega.{arith}
 use lib.ListN.{length}
 use Rattle.text.specs.Choose.{if_eq, if_so}
-use Rattle.text.proofs.Cases.{yes_lt, yes_eq, no_eq}
+use Rattle.text.proofs.Cases.{yes_eq, no_eq}
 use Rattle.wire.specs.Bytes.{byte_at}
 use Rattle.wire.specs.Cursors.{absent_of, opened_of, may_of, checked_of}
 use Rattle.wire.specs.Values.{absent_number, party_of, there_of, clock_of, clock_at, seconds_at}

@@ -4,16 +4,14 @@ use mathlib.Core.Path.{◌≡◌, sym, ap, ◌∙◌}
 use mathlib.Core.List.{List}
 use Prim.Native.Nat.{ℕ, ◌-◌, ◌≤◌, ◌<◌}
 use native.Mathlib.Omega.{arith}
-use Rattle.text.proofs.Cases.{yes_lt, no_lt, yes_le, no_le, yes_eq, no_eq}
+use Rattle.text.proofs.Cases.{no_lt, yes_le, no_le, yes_eq, no_eq}
 use Rattle.wire.specs.Bytes.{byte_at}
 use Rattle.wire.specs.Heads.{head_of}
-use Rattle.wire.specs.Elements.{sequence_of}
-use Rattle.wire.specs.Cursors.{stopped_of, absent_of, opened_of, inside_of, sized_of, look_of, need_of, may_of, extra_of, closed_of, seen_of, rest_of}
+use Rattle.wire.specs.Cursors.{absent_of, opened_of, sized_of, look_of, need_of, may_of, rest_of}
 use Rattle.wire.specs.declared.Cursor.{Cursor}
 use Rattle.wire.specs.declared.Element.{Element}
-use Rattle.wire.specs.declared.Refusal.{Refusal}
-use Rattle.wire.specs.Answers.{Head, Seen}
-use Rattle.std.specs.Prelude.{Ok, Err}
+use Rattle.wire.specs.Answers.{Head}
+use Rattle.std.specs.Prelude.{Ok}
 
 module _ (place inner next least most size : ℕ) (r : Cursor) (e : size ≡ next - inner) where
   pub size_fits : least ≤ size → size ≤ most → r ≡ opened_of inner next → r ≡ sized_of place inner next least most

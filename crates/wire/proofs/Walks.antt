@@ -2,13 +2,12 @@
 -- Assumes nothing.
 use mathlib.Core.Path.{◌≡◌, refl, sym, ap, subst, ◌∙◌}
 use mathlib.Core.List.{List, []}
-use Prim.Native.Nat.{ℕ, zero, suc, ◌+◌, ◌-◌, ◌^◌, ◌≤◌, ◌<◌}
+use Prim.Native.Nat.{ℕ, zero, suc, ◌+◌, ◌-◌, ◌≤◌, ◌<◌}
 use native.Mathlib.Omega.{arith}
 use lib.ListN.{length, take}
 use lib.Seq.{length-take-le}
-use Rattle.text.specs.Choose.{if_le, if_eq}
-use Rattle.text.proofs.Cases.{yes_lt, no_lt, yes_le, no_le, yes_eq, no_eq, both_lt, both_le, both_eq}
-use Rattle.wire.specs.Bytes.{byte_at}
+use Rattle.text.specs.Choose.{if_le}
+use Rattle.text.proofs.Cases.{yes_le, no_le, both_lt, both_le, both_eq}
 use Rattle.wire.specs.Heads.{filled_of, length_of, head_from, head_of}
 use Rattle.wire.specs.Cursors.{stopped_of, extra_of, closed_of}
 use Rattle.wire.specs.Grammar.{answer_of, invoke_of, result_of, error_of, reject_of, kind_of, whole_of, component_of}

@@ -1,6 +1,6 @@
 -- What the contents of an element say: an operation or error, a number, a duration.
 -- Assumes nothing.
-use Rattle.std.specs.Prelude.{List, ℕ, zero, suc, ◌+◌, ◌-◌, ◌*◌, ◌/◌, ◌%◌, length, Bool, true, false, not, ◌&&◌, eqb, ltb, leb, Some, None}
+use Rattle.std.specs.Prelude.{List, ℕ, zero, suc, ◌+◌, ◌-◌, ◌*◌, ◌/◌, ◌%◌, length, Bool, not, ◌&&◌, eqb, ltb, leb, Some, None}
 use Rattle.text.specs.Choose.{if_so, if_lt, if_eq}
 use Rattle.wire.specs.Bytes.{byte_at}
 use Rattle.wire.specs.declared.Number.{Number}
