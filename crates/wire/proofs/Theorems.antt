@@ -30,7 +30,7 @@ use Rattle.wire.proofs.Walks.{read_on, walk_end, walk_on, good_walk, bad_refused
 use Rattle.wire.proofs.Levels.{HeadWithin, head_within, Ends, sequence_ends}
 use Rattle.wire.proofs.Places.{Placed, component_placed, Met, walk_met}
 use Rattle.wire.proofs.Shortest.{headed}
-use Rattle.wire.specs.Answers.{Answer, Frame, Head, Seen, element, refusal}
+use Rattle.wire.specs.Answers.{Answer, Frame, element, refusal}
 use Rattle.std.specs.Prelude.{Result, Ok, Err}
 
 behind : (a t u : List ℕ) → Holds (a ++ (t ++ u)) (length a) t
