@@ -25,14 +25,6 @@ use Rattle.board.specs.Promises.{FreeAt, LowestAt, NoneFree, Matters, call_in_us
 use Rattle.board.specs.Row.{answer_at, free_number, free_from, lowest_free}
 use Rattle.board.proofs.Laws.{some_is, none_is_not, answer_is}
 
-abbrev found : Option ℕ → Bool
-found (Some i) = true
-found None = false
-
-abbrev which : Option ℕ → ℕ
-which (Some i) = i
-which None = 0
-
 -- the slot in front is in use
 free_head : {X : Type 0} (c : Call) (cs : List Call) → free_of c ≡ false → FreeAt (c ∷ cs) 0 → X
 free_head c cs x f = differ (sym x ∙ ap free_of (some_is f.there) ∙ f.free)
@@ -46,7 +38,7 @@ none_free (suc k) i (c ∷ cs) e j h f = go (free_of c) refl (none_free k (suc i
   where
     go : (b : Bool) → free_of c ≡ b → (free_from k (suc i) cs ≡ None → (j : ℕ) → j < k → FreeAt cs j → ⊥) →
         pick b (Some i) (free_from k (suc i) cs) ≡ None → (j : ℕ) → j < suc k → FreeAt (c ∷ cs) j → ⊥
-    go true x r e j h f = differ (sym (ap found e))
+    go true x r e j h f = cc
     go false x r e zero h f = free_head c cs x f
     go false x r e (suc j) h f = r e j (le_of_suc-le-suc h) (record { call = f.call; there = f.there; free = f.free })
 
@@ -65,8 +57,8 @@ pub record First (k i : ℕ) (cs : List Call) (m : ℕ) : Type 0 where
   pub lowest : (j : ℕ) → j < place → FreeAt cs j → ⊥
 
 first_free : (k i : ℕ) (cs : List Call) (m : ℕ) → free_from k i cs ≡ Some m → First k i cs m
-first_free zero i cs m e = differ (ap found e)
-first_free (suc k) i [] m e = differ (ap found e)
+first_free zero i cs m e = cc
+first_free (suc k) i [] m e = cc
 first_free (suc k) i (c ∷ cs) m e = go (free_of c) refl (first_free k (suc i) cs m) e
   where
     before : free_of c ≡ false → (d : ℕ) → ((j : ℕ) → j < d → FreeAt cs j → ⊥) → (j : ℕ) → j < suc d → FreeAt (c ∷ cs) j → ⊥
@@ -88,7 +80,7 @@ first_free (suc k) i (c ∷ cs) m e = go (free_of c) refl (first_free k (suc i) 
     go true x r e =
         record {
           place = 0;
-          is = omega (arith, sym (ap which e));
+          is = let h : i ≡ m = cc in omega arith;
           slot = omega arith;
           free = record { call = c; there = refl; free = x };
           lowest = λ j h f. not-suc-le-zero h;
@@ -188,7 +180,7 @@ every_slot_asked i s = (all_in_use_lem, freed_at_lem i s, differs)
         record {
           long = (length-set all_in_use i unopened_call ∙ in_use_length, in_use_length);
           alike = λ j n. set_other all_in_use i j unopened_call n;
-          unlike = λ e. differ (ap found (sym (sym (freed_at_lem i s) ∙ e ∙ all_in_use_lem)));
+          unlike = λ e. let h : Some i ≡ None = sym (freed_at_lem i s) ∙ e ∙ all_in_use_lem in cc;
         }
 
 -- the slot found is one that an opening takes
