@@ -200,6 +200,63 @@ pub ordinal_some : (k : ℕ) → (k ≡ 0 → ⊥) → Some k ≡ ordinal k
 unfolding ordinal
 ordinal_some k h = no_eq k 0 _ _ _ h refl
 
+-- each by the tests before it, as the code has them
+module _ (c : Component) where
+  abbrev Kind : Bool
+  Kind = kind_ok c.kind == 1
+
+  abbrev Item : Bool
+  Item = item_ok c.kind c.item == 1
+
+  abbrev Parts : Bool
+  Parts = parts_ok c == 1
+
+  abbrev Calling : Bool
+  Calling = not (c.parts / 16 % 2 == 1) || (number_ok c.calling == 1)
+
+  abbrev Called : Bool
+  Called = not (c.parts / 32 % 2 == 1) || (number_ok c.called == 1)
+
+  abbrev Timed : Bool
+  Timed = not (c.parts / 64 % 2 == 1) || (duration_ok c.duration == 1)
+
+  abbrev Named : Bool
+  Named = id_ok c.kind c.id == 1
+
+  pub first_kind : false ≡ Kind → Some 1 ≡ ordinal (bad_of c)
+  unfolding if_so
+  first_kind a = rw (fields_as c, ← a) (ordinal_some _ (λ e. omega arith))
+
+  pub first_item : true ≡ Kind → false ≡ Item → Some 2 ≡ ordinal (bad_of c)
+  unfolding if_so
+  first_item a b = rw (fields_as c, ← a, ← b) (ordinal_some _ (λ e. omega arith))
+
+  pub first_parts : true ≡ Kind → true ≡ Item → false ≡ Parts → Some 3 ≡ ordinal (bad_of c)
+  unfolding if_so
+  first_parts a b d = rw (fields_as c, ← a, ← b, ← d) (ordinal_some _ (λ e. omega arith))
+
+  pub first_calling : true ≡ Kind → true ≡ Item → true ≡ Parts → false ≡ Calling → Some 4 ≡ ordinal (bad_of c)
+  unfolding if_so
+  first_calling a b d e = rw (fields_as c, ← a, ← b, ← d, ← e) (ordinal_some _ (λ e. omega arith))
+
+  pub first_called : true ≡ Kind → true ≡ Item → true ≡ Parts → true ≡ Calling → false ≡ Called → Some (4 + c.parts / 16 % 2) ≡ ordinal (bad_of c)
+  unfolding if_so
+  first_called a b d e f = rw (fields_as c, ← a, ← b, ← d, ← e, ← f) (ordinal_some _ (λ e. omega arith))
+
+  pub first_timed : true ≡ Kind → true ≡ Item → true ≡ Parts → true ≡ Calling → true ≡ Called → false ≡ Timed → Some (4 + c.parts / 16 % 2 + c.parts / 32 % 2) ≡ ordinal (bad_of c)
+  unfolding if_so
+  first_timed a b d e f g = rw (fields_as c, ← a, ← b, ← d, ← e, ← f, ← g) (ordinal_some _ (λ e. omega arith))
+
+  pub first_named : true ≡ Kind → true ≡ Item → true ≡ Parts → true ≡ Calling → true ≡ Called → true ≡ Timed → false ≡ Named → Some (4 + c.parts / 16 % 2 + c.parts / 32 % 2 + c.parts / 64 % 2) ≡ ordinal (bad_of c)
+  unfolding if_so
+  first_named a b d e f g h = rw (fields_as c, ← a, ← b, ← d, ← e, ← f, ← g, ← h) (ordinal_some _ (λ e. omega arith))
+
+  pub first_none : true ≡ Kind → true ≡ Item → true ≡ Parts → true ≡ Calling → true ≡ Called → true ≡ Timed → true ≡ Named → None ≡ ordinal (bad_of c)
+  unfolding if_so
+  first_none a b d e f g h = rw (fields_as c, ← a, ← b, ← d, ← e, ← f, ← g, ← h) ordinal_none
+
+pub ruleset first_told = (first_kind, first_item, first_parts, first_calling, first_called, first_timed, first_named, first_none)
+
 -- and what it was
 pub told_ordinal : (bad k : ℕ) → Some k ≡ ordinal bad → (bad ≡ k) × (bad ≡ 0 → ⊥)
 unfolding ordinal

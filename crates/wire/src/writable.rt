@@ -110,6 +110,7 @@ fn id_ok(kind: u8, id: u16) -> bool
 // ---- the first that is out of range
 
 // Its ordinal. A number or Duration that the parts do not name is no field.
+#[tactic(auto, using(crate::proofs::Fields::first_told))]
 pub fn bad_field(c: Component) -> Option<u8>
     ensures { result ≡ ordinal (bad_of c) }
 {
