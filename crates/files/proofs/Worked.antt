@@ -22,10 +22,8 @@ use Rattle.files.specs.Places.{place_after, places_from, places_of}
 use Rattle.files.specs.Words.{code_word, digits_word, counted_word, number_word, role_word, comma_text, flag_text, flags_text}
 use Rattle.files.specs.Words.{flags_word, opening_words, asked_word, ask_words, name_word, operation_word, with_operation_word, unless_zero}
 use Rattle.files.specs.Words.{reject_words, unknown_words, with_number, values_words, message_words, told_word, access_words, entry_words}
-use Rattle.files.specs.Bodies.{Reading, got, stopped}
+use Rattle.files.specs.Bodies.{got, stopped}
 use Rattle.files.specs.declared.Where.TheVariants.{Plain}
-use Rattle.std.specs.Prelude.{Option, None, Some, Ok, Err}
-use Rattle.files.specs.declared.Unreadable.{Unreadable}
 use Rattle.files.specs.declared.Unreadable.TheVariants.{CutShort, BadLength, UnknownKind}
 
 -- 01, case L
