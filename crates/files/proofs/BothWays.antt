@@ -23,13 +23,16 @@ use Rattle.files.specs.Bodies.{opening_from, ask_from, message_from, access_from
 use Rattle.files.specs.Typed.{AllBytes, TypedNumber, Typed, TypedWhere, Entry, file_of, Writable}
 use Rattle.files.specs.Write.{nature_with, number_with, message_with}
 use Rattle.files.specs.Shown.{whole, Contents, and_then, contents_from, contents_of, entries_of}
-use Rattle.files.specs.declared.Frame.{Frame}
-use Rattle.files.specs.declared.Read.{Read}
+use Rattle.files.specs.Frames.{Framing, framed}
+use Rattle.files.specs.Bodies.{Reading, got}
+use Rattle.files.specs.declared.Record.{Record}
 use Rattle.files.specs.declared.Where.{Where}
 use Rattle.files.specs.declared.Where.TheVariants.{Plain, Slot}
 use Rattle.files.proofs.CountByte.{count_typed, byte_again, number_again, there_small, named_small, there_byte, named_byte, absent_byte}
 use Rattle.files.proofs.Records.{le_one, plain_ways, frame_ways, slotted_in, frame_slotted, frame_plain, by_body, read_as, plain_read_as}
 use Rattle.files.proofs.Stored.{Fits, Holds, holds_left, holds_right, holds_between, le_within, fields_length, fields_back, fields_again, bytes_join, fields_bytes}
+use Rattle.std.specs.Prelude.{Option, None, Some, Ok, Err}
+use Rattle.files.specs.declared.Unreadable.{Unreadable}
 
 -- ---- its values have room in its fields
 
@@ -158,7 +161,7 @@ want_back s b Expiry v = refl
 want_back s b (Time seconds) v = refl
 
 frame_back : (n at len kind want next : ℕ) → 2 ≤ len → len ≤ 29 → want ≡ len → next ≡ at + 2 + len → next ≤ n
-    → plain_of n at len kind want ≡ Frame.Body Plain kind next
+    → plain_of n at len kind want ≡ framed Plain kind next
 unfolding plain_of
 frame_back n at len kind want next g h e f l =
     sym (no_lt _ _ _ _ _ (omega arith)
@@ -166,7 +169,7 @@ frame_back n at len kind want next g h e f l =
     (no_lt _ _ _ _ _ h
     (no_lt _ _ _ _ _ (omega arith)
     (no_eq _ _ _ _ _ (λ z. omega arith)
-    (yes_eq _ _ _ _ _ (sym e) (ap (Frame.Body Plain kind) f)))))))
+    (yes_eq _ _ _ _ _ (sym e) (ap (framed Plain kind) f)))))))
 
 kind_small : (e : Event) → kind_of e < 256 ^ 2
 kind_small (Opening role flags own) = omega arith
@@ -198,7 +201,7 @@ module _ (s : List ℕ) (at : ℕ) (e : Event) (k : event_ok e ≡ true) (t : Ty
       let p : at + 2 + 2 ≡ at + 4 = omega arith in
       sym (ap (λ (i : ℕ). values_at s i (fields_of e)) p) ∙ ap (drop 2) all_read
 
-  frame_read : at + length (record_of e) ≤ length s → plain_frame s at ≡ Frame.Body Plain (kind_of e) (at + length (record_of e))
+  frame_read : at + length (record_of e) ≤ length s → plain_frame s at ≡ framed Plain (kind_of e) (at + length (record_of e))
   unfolding plain_frame
   frame_read h =
       let l = body_length e in
@@ -210,12 +213,12 @@ module _ (s : List ℕ) (at : ℕ) (e : Event) (k : event_ok e ≡ true) (t : Ty
       (frame_back (length s) at (length_with (fields_of e)) (kind_of e) _ (at + length (record_of e))
       (omega arith) (omega arith) w (omega arith) h)
 
-  record_read : at + length (record_of e) ≤ length s → plain_at s at ≡ Read.Got Plain e (at + length (record_of e))
+  record_read : at + length (record_of e) ≤ length s → plain_at s at ≡ got Plain e (at + length (record_of e))
   unfolding plain_at
   record_read h =
       let r = record_length e in
-      sym (no_le _ _ _ _ _ (omega arith) (sym (ap (read_by s at) (frame_read h)
-      ∙ ap (λ (x : Event). Read.Got Plain x (at + length (record_of e))) (event_back s (at + 4) e k values_read))))
+      sym (no_le _ _ _ _ _ (omega arith) (sym (ap (λ (x : Framing). Some (read_by s at x)) (frame_read h)
+      ∙ ap (λ (x : Event). got Plain x (at + length (record_of e))) (event_back s (at + 4) e k values_read))))
 
 -- ---- the kind of a record and its length; what a plain reading and a reading of any kind have to do with each other
 
@@ -229,11 +232,17 @@ unknown_length kind parts h =
     (no_eq _ _ _ _ _ (λ e. omega arith)
     (no_eq _ _ _ _ _ (λ e. omega arith) refl))))))
 
+-- what is found is where it acts, its event and the place after it
+pub same_got : (v w : Where) (e f : Event) (m n : ℕ) → got v e m ≡ got w f n → (v ≡ w) × (e ≡ f) × (m ≡ n)
+same_got v w e f m n g =
+    let r : record { acts = v; event = e; next = m } ≡ record { acts = w; event = f; next = n } = cc in
+    (ap (λ (x : Record). x.acts) r, ap (λ (x : Record). x.event) r, ap (λ (x : Record). x.next) r)
+
 -- what led to a plain frame; its kind is one of six, and not 7
-abbrev PlainFacts : List ℕ → ℕ → Frame → Type 0
-PlainFacts s at (Frame.Stop n) = Unit {0}
-PlainFacts s at (Frame.Body w kind next) =
-    (w ≡ Plain) × (2 ≤ le_at 2 s at) × (le_at 2 s at ≤ 29) × (next ≡ at + 2 + le_at 2 s at) × (next ≤ length s) × (le_at 2 s (at + 2) ≡ slotted_kind → ⊥)
+abbrev PlainFacts : List ℕ → ℕ → Framing → Type 0
+PlainFacts s at (Err n) = Unit {0}
+PlainFacts s at (Ok body) =
+    (body.acts ≡ Plain) × (2 ≤ le_at 2 s at) × (le_at 2 s at ≤ 29) × (body.next ≡ at + 2 + le_at 2 s at) × (body.next ≤ length s) × (le_at 2 s (at + 2) ≡ slotted_kind → ⊥)
 
 plain_facts : (s : List ℕ) (at : ℕ) → PlainFacts s at (plain_frame s at)
 unfolding plain_frame
@@ -241,47 +250,47 @@ plain_facts s at =
     plain_ways _ at _ _ _ (PlainFacts s at) tt tt tt
     (λ a b c z e. (refl, a, b, refl, c, λ k. z (unknown_length (le_at 2 s (at + 2)) (byte_at s (at + 8)) (omega arith))))
 
-facts_of : (s : List ℕ) (at kind next : ℕ) (w : Where) → plain_frame s at ≡ Frame.Body w kind next → PlainFacts s at (Frame.Body w kind next)
+facts_of : (s : List ℕ) (at kind next : ℕ) (w : Where) → plain_frame s at ≡ framed w kind next → PlainFacts s at (framed w kind next)
 facts_of s at kind next w f = subst (PlainFacts s at) f (plain_facts s at)
 
 -- the frame of what was read, and the event of its body
-abbrev ReadParts : List ℕ → ℕ → Frame → Read → Type 0
-ReadParts s at f Read.End = Unit {0}
-ReadParts s at f (Read.Stop n) = Unit {0}
-ReadParts s at f (Read.Got w e next) = (kind : ℕ) × (at < length s) × (f ≡ Frame.Body w kind next) × (e ≡ event_at s (body_at w at) kind)
+abbrev ReadParts : List ℕ → ℕ → Framing → Reading → Type 0
+ReadParts s at f None = Unit {0}
+ReadParts s at f (Some (Err n)) = Unit {0}
+ReadParts s at f (Some (Ok found)) = (kind : ℕ) × (at < length s) × (f ≡ framed found.acts kind found.next) × (found.event ≡ event_at s (body_at found.acts at) kind)
 
-parts_by : (s : List ℕ) (at : ℕ) (f : Frame) → at < length s → ReadParts s at f (read_by s at f)
-parts_by s at (Frame.Stop n) l = tt
-parts_by s at (Frame.Body w kind next) l = (kind, l, refl, refl)
+parts_by : (s : List ℕ) (at : ℕ) (f : Framing) → at < length s → ReadParts s at f (Some (read_by s at f))
+parts_by s at (Err n) l = tt
+parts_by s at (Ok body) l = (body.kind, l, refl, refl)
 
-any_parts : (s : List ℕ) (at next : ℕ) (w : Where) (e : Event) → read_at s at ≡ Read.Got w e next → ReadParts s at (frame_at s at) (Read.Got w e next)
+any_parts : (s : List ℕ) (at next : ℕ) (w : Where) (e : Event) → read_at s at ≡ got w e next → ReadParts s at (frame_at s at) (got w e next)
 unfolding read_at
 any_parts s at next w e r = subst P r (both_le _ _ P _ _ (λ _. tt) (λ l. parts_by s at (frame_at s at) l))
   where
-    P : Read → Type 0
+    P : Reading → Type 0
     P = ReadParts s at (frame_at s at)
 
-plain_parts : (s : List ℕ) (at next : ℕ) (w : Where) (e : Event) → plain_at s at ≡ Read.Got w e next
-    → ReadParts s at (plain_frame s at) (Read.Got w e next)
+plain_parts : (s : List ℕ) (at next : ℕ) (w : Where) (e : Event) → plain_at s at ≡ got w e next
+    → ReadParts s at (plain_frame s at) (got w e next)
 unfolding plain_at
 plain_parts s at next w e r = subst P r (both_le _ _ P _ _ (λ _. tt) (λ l. parts_by s at (plain_frame s at) l))
   where
-    P : Read → Type 0
+    P : Reading → Type 0
     P = ReadParts s at (plain_frame s at)
 
-pub plain_acts : (s : List ℕ) (at next : ℕ) (w : Where) (e : Event) → plain_at s at ≡ Read.Got w e next → w ≡ Plain
+pub plain_acts : (s : List ℕ) (at next : ℕ) (w : Where) (e : Event) → plain_at s at ≡ got w e next → w ≡ Plain
 plain_acts s at next w e r =
     let (kind, l, f, v) = plain_parts s at next w e r in
     (facts_of s at kind next w f).0
 
 -- a plain reading is a reading
-pub plain_is_read : (s : List ℕ) (at next : ℕ) (w : Where) (e : Event) → plain_at s at ≡ Read.Got w e next → read_at s at ≡ Read.Got w e next
+pub plain_is_read : (s : List ℕ) (at next : ℕ) (w : Where) (e : Event) → plain_at s at ≡ got w e next → read_at s at ≡ got w e next
 plain_is_read s at next w e r =
     let (kind, l, f, v) = plain_parts s at next w e r in
     let (p, a, b, n, c, k) = facts_of s at kind next w f in
-    sym (read_as s at (Frame.Body w kind next) (Read.Got w e next) l
-    (frame_plain s at (le_at 2 s (at + 2)) (Frame.Body w kind next) (omega arith) refl k (sym f))
-    (by_body s at kind next (body_at w at) w (Frame.Body w kind next) e refl refl v))
+    sym (read_as s at (framed w kind next) (got w e next) l
+    (frame_plain s at (le_at 2 s (at + 2)) (framed w kind next) (omega arith) refl k (sym f))
+    (by_body s at kind next (body_at w at) w (framed w kind next) e refl refl v))
 
 -- the six bytes before a record that stands inside one of kind 7: its length, its kind and its slot
 pub record Headed (s : List ℕ) (at i : ℕ) : Type 0 where
@@ -289,7 +298,7 @@ pub record Headed (s : List ℕ) (at i : ℕ) : Type 0 where
   pub slot : le_at 2 s (at + 4) ≡ i
   pub filled : le_at 2 s (at + 6) + 6 ≡ le_at 2 s at
 
-outer_passes : (n at len inner : ℕ) → 8 ≤ len → len ≤ 35 → at + 2 + len ≤ n → inner + 6 ≡ len → 0 ≡ outer_of n at len inner
+outer_passes : (n at len inner : ℕ) → 8 ≤ len → len ≤ 35 → at + 2 + len ≤ n → inner + 6 ≡ len → Ok tt ≡ outer_of n at len inner
 unfolding outer_of
 outer_passes n at len inner a b c d =
     no_lt _ _ _ _ _ (omega arith)
@@ -299,65 +308,69 @@ outer_passes n at len inner a b c d =
     (yes_eq _ _ _ _ _ d refl))))
 
 -- and a plain reading behind such six bytes is a reading at the slot that they name
-pub slotted_is_read : (s : List ℕ) (at i next : ℕ) (w : Where) (e : Event) → Headed s at i → plain_at s (at + 6) ≡ Read.Got w e next
-    → read_at s at ≡ Read.Got (Slot i) e next
+pub slotted_is_read : (s : List ℕ) (at i next : ℕ) (w : Where) (e : Event) → Headed s at i → plain_at s (at + 6) ≡ got w e next
+    → read_at s at ≡ got (Slot i) e next
 slotted_is_read s at i next w e h r =
     let (kind, l, f, v) = plain_parts s (at + 6) next w e r in
     let (p, a, b, n, c, k) = facts_of s (at + 6) kind next w f in
     let g = h.filled in
     let body : body_at Plain (at + 6) ≡ at + 10 = omega arith in
     let v' : e ≡ event_at s (at + 10) kind = v ∙ ap (λ (x : Where). event_at s (body_at x (at + 6)) kind) p ∙ ap (λ (b : ℕ). event_at s b kind) body in
-    let o : 0 ≡ outer_of (length s) at (le_at 2 s at) (le_at 2 s (at + 6)) = outer_passes (length s) at (le_at 2 s at) (le_at 2 s (at + 6)) (omega arith) (omega arith) (omega arith) g in
-    sym (read_as s at (Frame.Body (Slot i) kind next) (Read.Got (Slot i) e next) (omega arith)
-    (frame_slotted s at slotted_kind (Frame.Body (Slot i) kind next) (omega arith) (sym h.kind) refl
-    (slotted_in s at (le_at 2 s at) (le_at 2 s (at + 6)) 0 refl refl o refl i (Frame.Body w kind next) (Frame.Body (Slot i) kind next) (sym h.slot) (sym f) refl))
-    (by_body s at kind next (at + 10) (Slot i) (Frame.Body (Slot i) kind next) e refl refl v'))
+    let o : Ok tt ≡ outer_of (length s) at (le_at 2 s at) (le_at 2 s (at + 6)) = outer_passes (length s) at (le_at 2 s at) (le_at 2 s (at + 6)) (omega arith) (omega arith) (omega arith) g in
+    sym (read_as s at (framed (Slot i) kind next) (got (Slot i) e next) (omega arith)
+    (frame_slotted s at slotted_kind (framed (Slot i) kind next) (omega arith) (sym h.kind) refl
+    (slotted_in s at (le_at 2 s at) (le_at 2 s (at + 6)) (Ok tt) refl refl o refl i (framed w kind next) (framed (Slot i) kind next) (sym h.slot) (sym f) refl))
+    (by_body s at kind next (at + 10) (Slot i) (framed (Slot i) kind next) e refl refl v'))
 
 -- nothing else is read: every reading is one of these two. The event e was found at a place, plain or at a slot
 abbrev pub FoundIn : List ℕ → ℕ → Where → Event → ℕ → Type 0
-FoundIn s at Plain e next = plain_at s at ≡ Read.Got Plain e next
-FoundIn s at (Slot i) e next = Headed s at i × (plain_at s (at + 6) ≡ Read.Got Plain e next)
+FoundIn s at Plain e next = plain_at s at ≡ got Plain e next
+FoundIn s at (Slot i) e next = Headed s at i × (plain_at s (at + 6) ≡ got Plain e next)
 
-abbrev FramedIn : List ℕ → ℕ → Frame → Type 0
-FramedIn s at (Frame.Stop n) = Unit {0}
-FramedIn s at (Frame.Body Plain kind next) = plain_frame s at ≡ Frame.Body Plain kind next
-FramedIn s at (Frame.Body (Slot i) kind next) = Headed s at i × (plain_frame s (at + 6) ≡ Frame.Body Plain kind next)
+abbrev FramedAt : List ℕ → ℕ → Where → ℕ → ℕ → Type 0
+FramedAt s at Plain kind next = plain_frame s at ≡ framed Plain kind next
+FramedAt s at (Slot i) kind next = Headed s at i × (plain_frame s (at + 6) ≡ framed Plain kind next)
 
-framed_plain : (s : List ℕ) (at : ℕ) (f : Frame) → plain_frame s at ≡ f → FramedIn s at f
-framed_plain s at (Frame.Stop n) e = tt
-framed_plain s at (Frame.Body Plain kind next) e = e
-framed_plain s at (Frame.Body (Slot i) kind next) e = let p = (facts_of s at kind next (Slot i) e).0 in let z : false ≡ true = cc in differ z
+abbrev FramedIn : List ℕ → ℕ → Framing → Type 0
+FramedIn s at (Err n) = Unit {0}
+FramedIn s at (Ok body) = FramedAt s at body.acts body.kind body.next
 
-framed_inside : (s : List ℕ) (at i : ℕ) (f : Frame) → Headed s at i → plain_frame s (at + 6) ≡ f → FramedIn s at (in_slot i f)
-framed_inside s at i (Frame.Stop n) h e = tt
-framed_inside s at i (Frame.Body w kind next) h e =
-    (h, e ∙ ap (λ (x : Where). Frame.Body x kind next) (facts_of s (at + 6) kind next w e).0)
+framed_plain : (s : List ℕ) (at : ℕ) (f : Framing) → plain_frame s at ≡ f → FramedIn s at f
+framed_plain s at (Err n) e = tt
+framed_plain s at (Ok body) e =
+    let p = (facts_of s at body.kind body.next body.acts e).0 in
+    subst (λ (w : Where). FramedAt s at w body.kind body.next) (sym p) (e ∙ ap (λ (w : Where). framed w body.kind body.next) p)
 
-framed : (s : List ℕ) (at : ℕ) → FramedIn s at (frame_at s at)
-framed s at =
+framed_inside : (s : List ℕ) (at i : ℕ) (f : Framing) → Headed s at i → plain_frame s (at + 6) ≡ f → FramedIn s at (in_slot i f)
+framed_inside s at i (Err n) h e = tt
+framed_inside s at i (Ok body) h e =
+    (h, e ∙ ap (λ (x : Where). framed x body.kind body.next) (facts_of s (at + 6) body.kind body.next body.acts e).0)
+
+any_framed : (s : List ℕ) (at : ℕ) → FramedIn s at (frame_at s at)
+any_framed s at =
     frame_ways s at (FramedIn s at) tt tt tt (λ _ _. framed_plain s at (plain_frame s at) refl)
     (λ _ k _ _ _ g.
     framed_inside s at (le_at 2 s (at + 4)) (plain_frame s (at + 6)) (record { kind = k; slot = refl; filled = g }) refl)
 
-found_framed : (s : List ℕ) (at kind next : ℕ) (w : Where) (e : Event) → at < length s → FramedIn s at (Frame.Body w kind next)
+found_framed : (s : List ℕ) (at kind next : ℕ) (w : Where) (e : Event) → at < length s → FramedIn s at (framed w kind next)
     → e ≡ event_at s (body_at w at) kind → FoundIn s at w e next
 found_framed s at kind next Plain e l f v =
-    sym (plain_read_as s at (Frame.Body Plain kind next) (Read.Got Plain e next) l (sym f)
-    (by_body s at kind next (at + 4) Plain (Frame.Body Plain kind next) e refl refl v))
+    sym (plain_read_as s at (framed Plain kind next) (got Plain e next) l (sym f)
+    (by_body s at kind next (at + 4) Plain (framed Plain kind next) e refl refl v))
 found_framed s at kind next (Slot i) e l (h, f) v =
     let (p, a, b, n, c, k) = facts_of s (at + 6) kind next Plain f in
     let body : at + 10 ≡ at + 6 + 4 = omega arith in (
       h,
-      sym (plain_read_as s (at + 6) (Frame.Body Plain kind next) (Read.Got Plain e next) (omega arith) (sym f)
-          (by_body s (at + 6) kind next (at + 6 + 4) Plain (Frame.Body Plain kind next) e refl refl (v ∙ ap (λ (b : ℕ). event_at s b kind) body))),
+      sym (plain_read_as s (at + 6) (framed Plain kind next) (got Plain e next) (omega arith) (sym f)
+          (by_body s (at + 6) kind next (at + 6 + 4) Plain (framed Plain kind next) e refl refl (v ∙ ap (λ (b : ℕ). event_at s b kind) body))),
     )
 
-pub read_is_found : (s : List ℕ) (at next : ℕ) (w : Where) (e : Event) → read_at s at ≡ Read.Got w e next → FoundIn s at w e next
+pub read_is_found : (s : List ℕ) (at next : ℕ) (w : Where) (e : Event) → read_at s at ≡ got w e next → FoundIn s at w e next
 read_is_found s at next w e r =
     let (kind, l, f, v) = any_parts s at next w e r in
-    found_framed s at kind next w e l (subst (FramedIn s at) f (framed s at)) v
+    found_framed s at kind next w e l (subst (FramedIn s at) f (any_framed s at)) v
 
-found_is_read : (w : Where) (s : List ℕ) (at next : ℕ) (e : Event) → FoundIn s at w e next → read_at s at ≡ Read.Got w e next
+found_is_read : (w : Where) (s : List ℕ) (at next : ℕ) (e : Event) → FoundIn s at w e next → read_at s at ≡ got w e next
 found_is_read Plain s at next e r = plain_is_read s at next Plain e r
 found_is_read (Slot i) s at next e (h, r) = slotted_is_read s at i next Plain e h r
 
@@ -452,16 +465,16 @@ by_kind s at a l (suc (suc (suc (suc (suc (suc zero)))))) g z f = stands s at a 
 by_kind s at a l (suc (suc (suc (suc (suc (suc (suc k))))))) g z f =
     absurd (z (unknown_length (suc (suc (suc (suc (suc (suc (suc k))))))) (byte_at s (at + 8)) (omega arith)))
 
-abbrev FrameStands : List ℕ → ℕ → Frame → Type 0
-FrameStands s at (Frame.Stop n) = Unit {0}
-FrameStands s at (Frame.Body w kind next) = Stands s at (event_at s (at + 4) kind) next
+abbrev FrameStands : List ℕ → ℕ → Framing → Type 0
+FrameStands s at (Err n) = Unit {0}
+FrameStands s at (Ok body) = Stands s at (event_at s (at + 4) body.kind) body.next
 
 plain_frame_stands : (s : List ℕ) (at : ℕ) → AllBytes s → FrameStands s at (plain_frame s at)
 unfolding plain_frame
 plain_frame_stands s at a =
     plain_ways _ at _ _ _ (FrameStands s at) tt tt tt (λ _ _ l z f. by_kind s at a l (le_at 2 s (at + 2)) refl z f)
 
-pub plain_stands : (s : List ℕ) (at next : ℕ) (e : Event) → AllBytes s → plain_at s at ≡ Read.Got Plain e next → Stands s at e next
+pub plain_stands : (s : List ℕ) (at next : ℕ) (e : Event) → AllBytes s → plain_at s at ≡ got Plain e next → Stands s at e next
 plain_stands s at next e a r =
     let (kind, l, f, v) = plain_parts s at next Plain e r in
     subst (λ (x : Event). Stands s at x next) (sym v) (subst (FrameStands s at) f (plain_frame_stands s at a))
@@ -510,15 +523,15 @@ module _ (s : List ℕ) (at i : ℕ) (e : Event) (k : event_ok e ≡ true) (t : 
       }
 
   slotted_read : at + length (slotted_of i (record_of e)) ≤ length s
-      → read_at s at ≡ Read.Got (Slot i) e (at + length (slotted_of i (record_of e)))
+      → read_at s at ≡ got (Slot i) e (at + length (slotted_of i (record_of e)))
   slotted_read h =
       let l = slotted_length i (record_of e) in
       let n : at + 6 + length (record_of e) ≡ at + length (slotted_of i (record_of e)) = omega arith in
       slotted_is_read s at i _ Plain e headed
-      (record_read s (at + 6) e k t inner_stands (omega arith) ∙ ap (Read.Got Plain e) n)
+      (record_read s (at + 6) e k t inner_stands (omega arith) ∙ ap (got Plain e) n)
 
 entry_read : (w : Where) (s : List ℕ) (at : ℕ) (e : Event) → event_ok e ≡ true → Typed e → TypedWhere w → Holds s at (entry_of w e)
-    → at + length (entry_of w e) ≤ length s → read_at s at ≡ Read.Got w e (at + length (entry_of w e))
+    → at + length (entry_of w e) ≤ length s → read_at s at ≡ got w e (at + length (entry_of w e))
 entry_read Plain s at e k t w f h = plain_is_read s at _ Plain e (record_read s at e k t f h)
 entry_read (Slot i) s at e k t w f h = slotted_read s at i e k t w f h
 
@@ -550,31 +563,30 @@ found_stands (Slot i) s at next e a (h, r) =
       omega arith,
     )
 
-abbrev ReadStands : List ℕ → ℕ → Read → Type 0
-ReadStands s at Read.End = length s ≤ at
-ReadStands s at (Read.Stop n) = Unit {0}
-ReadStands s at (Read.Got w e next) = EntryStands s at w e next
+abbrev ReadStands : List ℕ → ℕ → Reading → Type 0
+ReadStands s at None = length s ≤ at
+ReadStands s at (Some (Err n)) = Unit {0}
+ReadStands s at (Some (Ok found)) = EntryStands s at found.acts found.event found.next
 
-stands_by : (s : List ℕ) (at : ℕ) → AllBytes s → (r : Read) → read_at s at ≡ r → (r ≡ Read.End → length s ≤ at) → ReadStands s at r
-stands_by s at a Read.End e f = f refl
-stands_by s at a (Read.Stop n) e f = tt
-stands_by s at a (Read.Got w x next) e f = found_stands w s at next x a (read_is_found s at next w x e)
+stands_by : (s : List ℕ) (at : ℕ) → AllBytes s → (r : Reading) → read_at s at ≡ r → (r ≡ None → length s ≤ at) → ReadStands s at r
+stands_by s at a None e f = f refl
+stands_by s at a (Some (Err n)) e f = tt
+stands_by s at a (Some (Ok found)) e f = found_stands found.acts s at found.next found.event a (read_is_found s at found.next found.acts found.event e)
 
-never_ends : (s : List ℕ) (at : ℕ) (f : Frame) → read_by s at f ≡ Read.End → ⊥
-never_ends s at (Frame.Stop n) e = let z : false ≡ true = cc in differ z
-never_ends s at (Frame.Body w kind next) e = let z : false ≡ true = cc in differ z
+never_ends : (s : List ℕ) (at : ℕ) (f : Framing) → Some (read_by s at f) ≡ None → ⊥
+never_ends s at f e = cc
 
-ends_past : (s : List ℕ) (at : ℕ) → read_at s at ≡ Read.End → length s ≤ at
+ends_past : (s : List ℕ) (at : ℕ) → read_at s at ≡ None → length s ≤ at
 unfolding read_at
 ends_past s at =
-    both_le _ _ (λ (r : Read). r ≡ Read.End → length s ≤ at) _ _ (λ l _. l) (λ _ e. absurd (never_ends s at (frame_at s at) e))
+    both_le _ _ (λ (r : Reading). r ≡ None → length s ≤ at) _ _ (λ l _. l) (λ _ e. absurd (never_ends s at (frame_at s at) e))
 
-pub plain_ends_past : (s : List ℕ) (at : ℕ) → plain_at s at ≡ Read.End → length s ≤ at
+pub plain_ends_past : (s : List ℕ) (at : ℕ) → plain_at s at ≡ None → length s ≤ at
 unfolding plain_at
 plain_ends_past s at =
-    both_le _ _ (λ (r : Read). r ≡ Read.End → length s ≤ at) _ _ (λ l _. l) (λ _ e. absurd (never_ends s at (plain_frame s at) e))
+    both_le _ _ (λ (r : Reading). r ≡ None → length s ≤ at) _ _ (λ l _. l) (λ _ e. absurd (never_ends s at (plain_frame s at) e))
 
-pub plain_past_end : (s : List ℕ) (at : ℕ) → length s ≤ at → plain_at s at ≡ Read.End
+pub plain_past_end : (s : List ℕ) (at : ℕ) → length s ≤ at → plain_at s at ≡ None
 unfolding plain_at
 plain_past_end s at h = sym (yes_le _ _ _ _ _ h refl)
 
@@ -617,7 +629,7 @@ module _ (s : List ℕ) (a : AllBytes s) where
       both_eq kind 5 Typed _ _ (λ _. tt) λ _.
       le_within 4 4 s b (omega arith) a
 
-pub plain_typed : (s : List ℕ) → AllBytes s → (at next : ℕ) (e : Event) → plain_at s at ≡ Read.Got Plain e next → Typed e
+pub plain_typed : (s : List ℕ) → AllBytes s → (at next : ℕ) (e : Event) → plain_at s at ≡ got Plain e next → Typed e
 plain_typed s a at next e r =
     let (kind, l, f, v) = plain_parts s at next Plain e r in
     subst Typed (sym v) (event_typed s a (at + 4) kind)
@@ -630,7 +642,7 @@ found_typed (Slot i) s a at next e (h, r) =
 
 -- ---- a file of entries is read record by record
 
-past_last : (s : List ℕ) (at : ℕ) → length s ≤ at → read_at s at ≡ Read.End
+past_last : (s : List ℕ) (at : ℕ) → length s ≤ at → read_at s at ≡ None
 unfolding read_at
 past_last s at h = sym (yes_le _ _ _ _ _ h refl)
 
@@ -640,7 +652,7 @@ some_bytes (Slot i) e = let r = record_length e in omega (arith, slotted_length 
 
 -- whatever stands before and after it
 read_between : (w : Where) (e : Event) → event_ok e ≡ true → Typed e → TypedWhere w → (p q : List ℕ)
-    → read_at (p ++ entry_of w e ++ q) (length p) ≡ Read.Got w e (length p + length (entry_of w e))
+    → read_at (p ++ entry_of w e ++ q) (length p) ≡ got w e (length p + length (entry_of w e))
 read_between w e k t u p q =
     let l = length-append (p ++ entry_of w e) q in
     let m = length-append p (entry_of w e) in
@@ -652,7 +664,7 @@ from_place : (xs : List Entry) → Writable xs → (p : List ℕ) (k : ℕ) → 
 unfolding contents_from
 from_place [] w p zero h = refl
 from_place [] w p (suc k) h =
-    ap (λ (r : Read). and_then r (contents_from k (p ++ []))) (past_last (p ++ []) (length p) (omega (arith, length-append p [])))
+    ap (λ (r : Reading). and_then r (contents_from k (p ++ []))) (past_last (p ++ []) (length p) (omega (arith, length-append p [])))
 from_place (x ∷ xs) w p zero h =
     absurd (let r = some_bytes x.acts x.event in let l = length-append (entry_of x.acts x.event) (file_of xs) in omega arith)
 from_place (x ∷ xs) w p (suc k) h =
@@ -664,21 +676,21 @@ from_place (x ∷ xs) w p (suc k) h =
     let c : contents_from k (p ++ b ++ file_of xs) (length p + length b) ≡ record { entries = xs; ending = whole } =
     ap (contents_from k (p ++ b ++ file_of xs)) n ∙ from_place xs w.3 (p ++ b) k (omega arith) in
     ap (λ (y : List ℕ). and_then (read_at y (length p)) (contents_from k y)) s
-    ∙ ap (λ (y : Read). and_then y (contents_from k (p ++ b ++ file_of xs))) (read_between x.acts x.event w.0 w.1 w.2 p (file_of xs))
+    ∙ ap (λ (y : Reading). and_then y (contents_from k (p ++ b ++ file_of xs))) (read_between x.acts x.event w.0 w.1 w.2 p (file_of xs))
     ∙ ap (λ (y : Contents). record { entries = x ∷ y.entries; ending = y.ending }) c
 
 -- what stands at a place, by what was found there
-again_by : (k : ℕ) (s : List ℕ) (at : ℕ) (found : Read) → ReadStands s at found → length s ≤ at + suc k
+again_by : (k : ℕ) (s : List ℕ) (at : ℕ) (found : Reading) → ReadStands s at found → length s ≤ at + suc k
     → ((next : ℕ) → length s ≤ next + k → (contents_from k s next).ending ≡ whole → file_of (contents_from k s next).entries ≡ drop next s)
     → (and_then found (contents_from k s)).ending ≡ whole → file_of (and_then found (contents_from k s)).entries ≡ drop at s
-again_by k s at Read.End w h f e = sym (drop_of_length-le s w)
-again_by k s at (Read.Stop n) w h f e = cc
-again_by k s at (Read.Got x y next) w h f e =
-    let r = some_bytes x y in
+again_by k s at None w h f e = sym (drop_of_length-le s w)
+again_by k s at (Some (Err n)) w h f e = cc
+again_by k s at (Some (Ok found)) w h f e =
+    let r = some_bytes found.acts found.event in
     let g = w.1 in
-    let n : at + (next - at) ≡ next = omega arith in
-    ap₂ (λ (t u : List ℕ). t ++ u) w.0 (f next (omega arith) e ∙ ap (λ (i : ℕ). drop i s) (sym n) ∙ sym (drop-drop (next - at) at s))
-    ∙ take-append-drop (next - at) (drop at s)
+    let n : at + (found.next - at) ≡ found.next = omega arith in
+    ap₂ (λ (t u : List ℕ). t ++ u) w.0 (f found.next (omega arith) e ∙ ap (λ (i : ℕ). drop i s) (sym n) ∙ sym (drop-drop (found.next - at) at s))
+    ∙ take-append-drop (found.next - at) (drop at s)
 
 again_from : (k : ℕ) (s : List ℕ) (at : ℕ) → AllBytes s → length s ≤ at + k → (contents_from k s at).ending ≡ whole
     → file_of (contents_from k s at).entries ≡ drop at s
@@ -714,27 +726,27 @@ message_passed kind cause code item parts x i v y j w duration =
 
 -- A record is read as a plain one exactly where a reader of plain records alone reads it; and as one at a slot exactly where six bytes name
 -- kind 7, that slot and a length that the record behind them fills, and that reader reads this one.
-pub read_exactly : (s : List ℕ) (at next : ℕ) (w : Where) (e : Event) → (read_at s at ≡ Read.Got w e next) ↔ FoundIn s at w e next
+pub read_exactly : (s : List ℕ) (at next : ℕ) (w : Where) (e : Event) → (read_at s at ≡ got w e next) ↔ FoundIn s at w e next
 read_exactly s at next w e = (read_is_found s at next w e, found_is_read w s at next e)
 
 -- An event in range, written at any place, plain or at a slot, reads back as itself, whatever stands before and after it; and reading goes
 -- on where it ends.
 pub written_reads_back : (w : Where) (e : Event) → event_ok e ≡ true → Typed e → TypedWhere w → (p q : List ℕ)
-    → read_at (p ++ entry_of w e ++ q) (length p) ≡ Read.Got w e (length p + length (entry_of w e))
+    → read_at (p ++ entry_of w e ++ q) (length p) ≡ got w e (length p + length (entry_of w e))
 written_reads_back = read_between
 
 -- The same at the beginning of a file.
 pub first_reads_back : (w : Where) (e : Event) → event_ok e ≡ true → Typed e → TypedWhere w → (q : List ℕ)
-    → read_at (entry_of w e ++ q) 0 ≡ Read.Got w e (length (entry_of w e))
-first_reads_back w e k t u q = written_reads_back w e k t u [] q ∙ ap (Read.Got w e) (zero-add (length (entry_of w e)))
+    → read_at (entry_of w e ++ q) 0 ≡ got w e (length (entry_of w e))
+first_reads_back w e k t u q = written_reads_back w e k t u [] q ∙ ap (got w e) (zero-add (length (entry_of w e)))
 
 -- Where a record of a file of bytes is read, in range or not, the bytes that stand there are the record of the event that was read.
-pub read_writes_back : (s : List ℕ) → AllBytes s → (at next : ℕ) (w : Where) (e : Event) → read_at s at ≡ Read.Got w e next
+pub read_writes_back : (s : List ℕ) → AllBytes s → (at next : ℕ) (w : Where) (e : Event) → read_at s at ≡ got w e next
     → (entry_of w e ≡ take (next - at) (drop at s)) × (next ≡ at + length (entry_of w e))
 read_writes_back s a at next w e r = found_stands w s at next e a (read_is_found s at next w e r)
 
 -- So what is read of bytes has numbers of their types, and what is written is bytes: neither has to be asked for where one follows the other.
-pub read_typed : (s : List ℕ) → AllBytes s → (at next : ℕ) (w : Where) (e : Event) → read_at s at ≡ Read.Got w e next → Typed e × TypedWhere w
+pub read_typed : (s : List ℕ) → AllBytes s → (at next : ℕ) (w : Where) (e : Event) → read_at s at ≡ got w e next → Typed e × TypedWhere w
 read_typed s a at next w e r = found_typed w s a at next e (read_is_found s at next w e r)
 
 plain_bytes : (e : Event) → AllBytes (record_of e)
@@ -754,11 +766,12 @@ pub same_bytes_same_event : (v w : Where) (e f : Event) → event_ok e ≡ true 
     → (q r : List ℕ) → entry_of v e ++ q ≡ entry_of w f ++ r → (v ≡ w) × (e ≡ f)
 same_bytes_same_event v w e f k t x l u y q r h =
     let g = sym (first_reads_back v e k t x q) ∙ ap (λ (s : List ℕ). read_at s 0) h ∙ first_reads_back w f l u y r in
-    (cc, cc)
+    let p = same_got v w e f _ _ g in
+    (p.0, p.1)
 
 -- An event has one form, plain or at a slot: wherever it is read in files of bytes, the same bytes stand there.
 pub one_form : (s t : List ℕ) → AllBytes s → AllBytes t → (at next at' next' : ℕ) (w : Where) (e : Event)
-    → read_at s at ≡ Read.Got w e next → read_at t at' ≡ Read.Got w e next' → take (next - at) (drop at s) ≡ take (next' - at') (drop at' t)
+    → read_at s at ≡ got w e next → read_at t at' ≡ got w e next' → take (next - at) (drop at s) ≡ take (next' - at') (drop at' t)
 one_form s t a b at next at' next' w e g h = sym (read_writes_back s a at next w e g).0 ∙ (read_writes_back t b at' next' w e h).0
 
 -- A file that is the records of events in range, plain or at slots, one after another, holds just these entries and ends after the last.

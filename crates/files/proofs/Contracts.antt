@@ -27,9 +27,9 @@ use Rattle.files.specs.contracts.bodies.plain_at as plain_at
 use Rattle.files.specs.contracts.bodies.read_at as read_at
 use Rattle.files.specs.contracts.dump.rev_dump as rev-dump
 use Rattle.files.specs.contracts.lent.found_at as found_at
-use Rattle.files.specs.contracts.lent.left as left
-use Rattle.files.specs.contracts.lent.next as next
-use Rattle.files.specs.contracts.lent.open as opens
+use Rattle.files.specs.contracts.Reader.left as left
+use Rattle.files.specs.contracts.Reader.next as next
+use Rattle.files.specs.contracts.Reader.open as opens
 use Rattle.files.specs.contracts.listing.rev_listing as rev-listing
 use Rattle.files.specs.contracts.places.count_records as count-records
 use Rattle.files.specs.contracts.words.says as says

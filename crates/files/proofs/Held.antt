@@ -14,7 +14,10 @@ use Rattle.board.specs.Numbers.{no_such_slot}
 use Rattle.board.specs.Row.{answer_at, row_after}
 use Rattle.board.proofs.Laws.{at_place, answer_is, row_is, past_63}
 use Rattle.files.specs.Listing.{slot_of, slot_found, answer_of, answer_by, row_by, index_of}
-use Rattle.files.specs.declared.Read.{Read}
+use Rattle.files.specs.Bodies.{Reading, got}
+use Rattle.files.specs.Frames.{stop_number}
+use Rattle.std.specs.Prelude.{Option, None, Some, Ok, Err}
+use Rattle.files.specs.declared.Unreadable.{Unreadable}
 
 -- ---- what is held
 
@@ -110,11 +113,11 @@ module _ {reached row : List Call} {held : ℕ} {call : Call} (h : Holds reached
       )
 
   -- whatever was found
-  pub answered : (found : Read) (b : Bool) (o : Outcome) → held ≡ index_of (slot_found found) → b ≡ ltb held 64 → o ≡ answer_of found b call
+  pub answered : (found : Reading) (b : Bool) (o : Outcome) → held ≡ index_of (slot_found found) → b ≡ ltb held 64 → o ≡ answer_of found b call
       → (o ≡ answer_by found reached) × Holds (row_by found reached) row held o.call
-  answered Read.End b o p t f = refused_first 0 o p f
-  answered (Read.Stop n) b o p t f = refused_first n o p f
-  answered (Read.Got w e next) b o p t f =
-      both_lt (slot_of w) 64 (λ (_ : ℕ). (o ≡ answer_at reached (slot_of w) e) × Holds (row_after reached (slot_of w) e) row held o.call) 0 0
-      (λ q. stepped (slot_of w) e o p q (f ∙ ap (λ (x : Bool). answer_of (Read.Got w e next) x call) (t ∙ lt-ltb held 64 (omega (arith, p ∙ index_below (slot_of w) q, q)))))
-      (λ q. missed (slot_of w) e o p q (f ∙ ap (λ (x : Bool). answer_of (Read.Got w e next) x call) (t ∙ le-ltb held 64 (omega (arith, p ∙ index_past (slot_of w) q)))))
+  answered None b o p t f = refused_first 0 o p f
+  answered (Some (Err stop)) b o p t f = refused_first (stop_number stop) o p f
+  answered (Some (Ok found)) b o p t f =
+      both_lt (slot_of found.acts) 64 (λ (_ : ℕ). (o ≡ answer_at reached (slot_of found.acts) found.event) × Holds (row_after reached (slot_of found.acts) found.event) row held o.call) 0 0
+      (λ q. stepped (slot_of found.acts) found.event o p q (f ∙ ap (λ (x : Bool). answer_of (got found.acts found.event found.next) x call) (t ∙ lt-ltb held 64 (omega (arith, p ∙ index_below (slot_of found.acts) q, q)))))
+      (λ q. missed (slot_of found.acts) found.event o p q (f ∙ ap (λ (x : Bool). answer_of (got found.acts found.event found.next) x call) (t ∙ le-ltb held 64 (omega (arith, p ∙ index_past (slot_of found.acts) q)))))

@@ -14,15 +14,19 @@ use Rattle.files.specs.Fields.{bytes_of}
 use Rattle.files.specs.Frames.{length_with}
 use Rattle.files.specs.Typed.{AllBytes, Typed, TypedWhere}
 use Rattle.files.specs.Write.{number_of, bytes_written, gives_back, slot_gives, slot_leaves}
-use Rattle.files.specs.declared.Read.{Read}
+use Rattle.files.specs.Bodies.{Reading, got, stopped}
+use Rattle.files.specs.Frames.{stop_number}
 use Rattle.files.specs.declared.Where.{Where}
 use Rattle.files.specs.declared.Where.TheVariants.{Plain, Slot}
 use Rattle.files.specs.declared.Unwritten.{Unwritten}
-use Rattle.files.proofs.BothWays.{record_length, record_range, slotted_length, first_reads_back, read_writes_back}
+use Rattle.files.proofs.BothWays.{same_got, record_length, record_range, slotted_length, first_reads_back, read_writes_back}
 use Rattle.files.proofs.BothWays.{plain_stands, plain_acts, plain_ends_past, plain_past_end}
 use Rattle.files.proofs.Puts.{is_whole, ways}
 use Rattle.files.proofs.Unread.{plain_stop_number}
 use Rattle.files.proofs.Same.{answered_of, held_of, Wrote, Numbered, HandedOver}
+use Rattle.std.specs.Prelude.{Option, None, Some, Ok, Err}
+use Rattle.files.specs.declared.Unreadable.{Unreadable}
+use Rattle.files.specs.declared.Unreadable.TheVariants.{CutShort, BadLength, UnknownKind}
 
 -- A writer gave r for the event e, plain or at a slot, and left the buffer `new` where `old` was
 pub record Writes (w : Where) (e : Event) (old : List ℕ) (r : ℕ) (new : List ℕ) : Type 0 where
@@ -40,7 +44,7 @@ pub record Writes (w : Where) (e : Event) (old : List ℕ) (r : ℕ) (new : List
   -- its first two bytes count those that follow them
   pub stated : r ≡ 0 → 2 + le_at 2 new 0 ≡ length (entry_of w e)
   -- and the reader gives the event back, where it acts, and the place after it
-  pub read : r ≡ 0 → Typed e → TypedWhere w → read_at new 0 ≡ Read.Got w e (length (entry_of w e))
+  pub read : r ≡ 0 → Typed e → TypedWhere w → read_at new 0 ≡ got w e (length (entry_of w e))
 
 two_bytes : (n : ℕ) (a b c : List ℕ) → n < 65536 → le_at 2 (le_of 2 n ++ a ++ b ++ c) 0 ≡ n
 unfolding le_at le_of
@@ -133,7 +137,7 @@ event_written w e old a new (g, f) =
     (host_writes w e old (gives_back a) new (ap gives_back g, f), λ k. ap bytes_written g ∙ all_measured w e old (ap number_of (sym g) ∙ k))
 
 -- What the reader accepts with every field in range, the writer writes back byte for byte, wherever there is room for it.
-pub read_then_written : (s : List ℕ) → AllBytes s → (at next : ℕ) (w : Where) (e : Event) → read_at s at ≡ Read.Got w e next → event_ok e ≡ true
+pub read_then_written : (s : List ℕ) → AllBytes s → (at next : ℕ) (w : Where) (e : Event) → read_at s at ≡ got w e next → event_ok e ≡ true
     → (old : List ℕ) → next - at ≤ length old
     → (answered_of w e old ≡ Ok (next - at)) × (held_of w e old ≡ take (next - at) (drop at s) ++ drop (next - at) old)
 read_then_written s b at next w e g h old l =
@@ -147,16 +151,16 @@ read_then_written s b at next w e g h old l =
 -- `rev_write_slot` gave r for the bytes `inner` and the slot i, and left the buffer `new` where `old` was
 pub record Hands (inner : List ℕ) (i : ℕ) (old : List ℕ) (r : ℕ) (new : List ℕ) : Type 0 where
   -- where a plain record stands at their beginning, it is written at the slot as any event is
-  pub reads : (e : Event) (next : ℕ) → plain_at inner 0 ≡ Read.Got Plain e next → Writes (Slot i) e old r new
+  pub reads : (e : Event) (next : ℕ) → plain_at inner 0 ≡ got Plain e next → Writes (Slot i) e old r new
   -- .. and if they are bytes, those of that record stand behind the six bytes before it
-  pub inside : AllBytes inner → (e : Event) (next : ℕ) → plain_at inner 0 ≡ Read.Got Plain e next → r ≡ 0
+  pub inside : AllBytes inner → (e : Event) (next : ℕ) → plain_at inner 0 ≡ got Plain e next → r ≡ 0
       → take (6 + next) new ≡ slot_head next i ++ take next inner
   -- 0 exactly where such a record stands there with its fields in range, and there is room for it and the six bytes
-  pub done : (r ≡ 0) ↔ ((e : Event) × (next : ℕ) × (plain_at inner 0 ≡ Read.Got Plain e next) × (event_ok e ≡ true) × (length (entry_of (Slot i) e) ≤ length old))
+  pub done : (r ≡ 0) ↔ ((e : Event) × (next : ℕ) × (plain_at inner 0 ≡ got Plain e next) × (event_ok e ≡ true) × (length (entry_of (Slot i) e) ≤ length old))
   -- 5, 6 and 7 exactly where the reader of plain records says so; where nothing is handed over the length lacks, which is 5
-  pub five : (r ≡ 5) ↔ ((plain_at inner 0 ≡ Read.Stop 5) ⊎ (length inner ≡ 0))
-  pub six : (r ≡ 6) ↔ (plain_at inner 0 ≡ Read.Stop 6)
-  pub seven : (r ≡ 7) ↔ (plain_at inner 0 ≡ Read.Stop 7)
+  pub five : (r ≡ 5) ↔ ((plain_at inner 0 ≡ stopped CutShort) ⊎ (length inner ≡ 0))
+  pub six : (r ≡ 6) ↔ (plain_at inner 0 ≡ stopped BadLength)
+  pub seven : (r ≡ 7) ↔ (plain_at inner 0 ≡ stopped UnknownKind)
   -- on a refusal every byte is as it was
   pub refused : (r ≡ 0 → ⊥) → new ≡ old
 
@@ -169,8 +173,23 @@ apart_from_read w e old r new n t a b k =
     (λ l. omega (arith, t.eight.1 (h, l))) (λ l. omega (arith, t.done.1 (h, l))))
     (λ h. omega (arith, t.three.1 h))
 
+-- why a record cannot be read is told by its number
+number_tells : (a b : Unreadable) → stop_number a ≡ stop_number b → a ≡ b
+number_tells CutShort CutShort e = refl
+number_tells CutShort BadLength e = absurd (omega arith)
+number_tells CutShort UnknownKind e = absurd (omega arith)
+number_tells BadLength CutShort e = absurd (omega arith)
+number_tells BadLength BadLength e = refl
+number_tells BadLength UnknownKind e = absurd (omega arith)
+number_tells UnknownKind CutShort e = absurd (omega arith)
+number_tells UnknownKind BadLength e = absurd (omega arith)
+number_tells UnknownKind UnknownKind e = refl
+
+same_stop : (a b : Unreadable) → stopped a ≡ stopped b → stop_number a ≡ stop_number b
+same_stop a b e = let f : a ≡ b = cc in ap stop_number f
+
 module _ (inner : List ℕ) (i : ℕ) (old : List ℕ) where
-  none_hands : plain_at inner 0 ≡ Read.End → Hands inner i old 5 old
+  none_hands : plain_at inner 0 ≡ None → Hands inner i old 5 old
   none_hands g =
       let l : length inner ≡ 0 = omega (arith, plain_ends_past inner 0 g) in
       record {
@@ -183,25 +202,25 @@ module _ (inner : List ℕ) (i : ℕ) (old : List ℕ) where
         refused = λ _. refl;
       }
 
-  five_is : (n : ℕ) → plain_at inner 0 ≡ Read.Stop n → (plain_at inner 0 ≡ Read.Stop 5) ⊎ (length inner ≡ 0) → n ≡ 5
-  five_is n g (inl k) = cc
-  five_is n g (inr k) = let h = plain_past_end inner 0 (omega arith) in cc
+  five_is : (stop : Unreadable) → plain_at inner 0 ≡ stopped stop → (plain_at inner 0 ≡ stopped CutShort) ⊎ (length inner ≡ 0) → stop_number stop ≡ 5
+  five_is stop g (inl k) = same_stop stop CutShort (sym g ∙ k)
+  five_is stop g (inr k) = let h = plain_past_end inner 0 (omega arith) in cc
 
-  stop_hands : (n : ℕ) → plain_at inner 0 ≡ Read.Stop n → Hands inner i old n old
-  stop_hands n g =
-      let (a, b) = plain_stop_number inner 0 n g in
+  stop_hands : (stop : Unreadable) → plain_at inner 0 ≡ stopped stop → Hands inner i old (stop_number stop) old
+  stop_hands stop g =
+      let (a, b) = plain_stop_number inner 0 stop g in
       record {
         reads = λ e next h. let z : false ≡ true = cc in differ z;
         inside = λ _ e next h k. absurd (omega arith);
         done = (λ k. absurd (omega arith), λ (e, next, h, k, m). cc);
-        five = (λ k. inl (g ∙ ap Read.Stop k), five_is n g);
-        six = (λ k. g ∙ ap Read.Stop k, λ k. cc);
-        seven = (λ k. g ∙ ap Read.Stop k, λ k. cc);
+        five = (λ k. inl (g ∙ ap stopped (number_tells stop CutShort k)), five_is stop g);
+        six = (λ k. g ∙ ap stopped (number_tells stop BadLength k), λ k. same_stop stop BadLength (sym g ∙ k));
+        seven = (λ k. g ∙ ap stopped (number_tells stop UnknownKind k), λ k. same_stop stop UnknownKind (sym g ∙ k));
         refused = λ _. refl;
       }
 
   module _ (r : ℕ) (new : List ℕ) where
-    stands-inside : AllBytes inner → (e : Event) (next : ℕ) → plain_at inner 0 ≡ Read.Got Plain e next
+    stands-inside : AllBytes inner → (e : Event) (next : ℕ) → plain_at inner 0 ≡ got Plain e next
         → take (length (entry_of (Slot i) e)) new ≡ entry_of (Slot i) e → take (6 + next) new ≡ slot_head next i ++ take next inner
     unfolding slotted_of
     stands-inside a e next g h =
@@ -213,11 +232,11 @@ module _ (inner : List ℕ) (i : ℕ) (old : List ℕ) where
         ap (λ (x : ℕ). take x new) j ∙ h
         ∙ ap₂ (λ (x : ℕ) (y : List ℕ). slot_head x i ++ y) k (t ∙ ap (λ (x : ℕ). take x inner) m)
 
-    module _ (e : Event) (next : ℕ) (g : plain_at inner 0 ≡ Read.Got Plain e next) (t : Writes (Slot i) e old r new) where
-      same-event : (f : Event) (m : ℕ) → plain_at inner 0 ≡ Read.Got Plain f m → Writes (Slot i) f old r new
-      same-event f m h = let z : e ≡ f = cc in subst (λ (x : Event). Writes (Slot i) x old r new) z t
+    module _ (e : Event) (next : ℕ) (g : plain_at inner 0 ≡ got Plain e next) (t : Writes (Slot i) e old r new) where
+      same-event : (f : Event) (m : ℕ) → plain_at inner 0 ≡ got Plain f m → Writes (Slot i) f old r new
+      same-event f m h = let z : e ≡ f = (same_got Plain Plain e f next m (sym g ∙ h)).1 in subst (λ (x : Event). Writes (Slot i) x old r new) z t
 
-      not_five : (plain_at inner 0 ≡ Read.Stop 5) ⊎ (length inner ≡ 0) → r ≡ 5
+      not_five : (plain_at inner 0 ≡ stopped CutShort) ⊎ (length inner ≡ 0) → r ≡ 5
       not_five (inl k) = cc
       not_five (inr k) = let h = plain_past_end inner 0 (omega arith) in cc
 
@@ -234,11 +253,12 @@ module _ (inner : List ℕ) (i : ℕ) (old : List ℕ) where
             refused = t.refused;
           }
 
-    hands-by : (f : Read) → plain_at inner 0 ≡ f → (r ≡ slot_gives f i old) × (new ≡ slot_leaves f i old) → Hands inner i old r new
-    hands-by Read.End g (a, b) = subst (λ (x : ℕ). Hands inner i old x new) (sym a) (subst (Hands inner i old 5) (sym b) (none_hands g))
-    hands-by (Read.Stop n) g (a, b) = subst (λ (x : ℕ). Hands inner i old x new) (sym a) (subst (Hands inner i old n) (sym b) (stop_hands n g))
-    hands-by (Read.Got w e next) g p =
-        got-hands e next (g ∙ ap (λ (x : Where). Read.Got x e next) (plain_acts inner 0 next w e g)) (host_writes (Slot i) e old r new p)
+    hands-by : (f : Reading) → plain_at inner 0 ≡ f → (r ≡ slot_gives f i old) × (new ≡ slot_leaves f i old) → Hands inner i old r new
+    hands-by None g (a, b) = subst (λ (x : ℕ). Hands inner i old x new) (sym a) (subst (Hands inner i old 5) (sym b) (none_hands g))
+    hands-by (Some (Err stop)) g (a, b) =
+        subst (λ (x : ℕ). Hands inner i old x new) (sym a) (subst (Hands inner i old (stop_number stop)) (sym b) (stop_hands stop g))
+    hands-by (Some (Ok found)) g p =
+        got-hands found.event found.next (g ∙ ap (λ (x : Where). got x found.event found.next) (plain_acts inner 0 found.next found.acts found.event g)) (host_writes (Slot i) found.event old r new p)
 
 -- What a host gets by the contract of `rev_write_slot`, which is `HandedOver inner i old r new`.
 pub host_hands : (inner : List ℕ) (i : ℕ) (old : List ℕ) (r : ℕ) (new : List ℕ) → HandedOver inner i old r new → Hands inner i old r new

@@ -1,11 +1,11 @@
 -- What the writer's functions put is what its definitions say: bytes of a number, fields, records; and what is answered and left.
 -- Assumes nothing.
-use Rattle.std.proofs.Common.{◌≡◌, ℕ, Some, None, Result, Ok, Err, ◌+◌, ◌-◌, ◌*◌, ◌/◌, ◌%◌, ◌^◌, ◌<◌, ◌≤◌, Bool, true, false, List, [], ◌∷◌, ◌++◌, length, take, drop, set, sym, refl, ap, ◌∙◌, subst, append_assoc, append-nil, zero-add, add-one, arith, length-append, length-drop, take-append-drop, drop_of_length-le, length-take-le, take_all, drop-drop}
+use Rattle.std.proofs.Common.{◌≡◌, ℕ, Option, Some, None, IfSome, Result, Ok, Err, ◌+◌, ◌-◌, ◌*◌, ◌/◌, ◌%◌, ◌^◌, ◌<◌, ◌≤◌, Bool, true, false, eqb, List, [], ◌∷◌, ◌++◌, length, take, drop, set, sym, refl, ap, ◌∙◌, subst, append_assoc, append-nil, zero-add, add-one, arith, length-append, length-drop, take-append-drop, drop_of_length-le, length-take-le, take_all, drop-drop}
 use lib.Seq.{sets, sets-eq, drop-append_seam}
 use borrow.Rule.Slice.PartMut.{mid_of, put_mid}
 use Rattle.text.specs.Text.{Put}
 use Rattle.text.specs.Choose.{if_lt, if_eq, if_so}
-use Rattle.text.proofs.Cases.{yes_so, no_so, yes_lt, no_lt, both_so, both_lt}
+use Rattle.text.proofs.Cases.{yes_so, no_so, yes_lt, no_lt, both_so, both_lt, both_eq}
 use Rattle.text.proofs.Laws.{put_none, put_in, put_after, put_as}
 use Rattle.rows.specs.Valid.{event_ok, ordinal, bad_field_of}
 use Rattle.rows.specs.declared.Component.{Component}
@@ -24,7 +24,8 @@ use Rattle.files.specs.Fields.{expiry_fields, time_fields}
 use Rattle.files.specs.Fields.{size_of, bytes_of}
 use Rattle.files.specs.Frames.{length_with, length_of, slotted_kind}
 use Rattle.files.specs.Write.{written_of, left_of, written_at, left_at, gives_back, slot_gives, slot_leaves, message_with}
-use Rattle.files.specs.declared.Read.{Read}
+use Rattle.files.specs.Bodies.{Reading, got, stopped}
+use Rattle.files.specs.Frames.{stop_number}
 use Rattle.files.specs.declared.Where.{Where}
 use Rattle.files.specs.declared.Where.TheVariants.{Plain, Slot}
 use Rattle.files.specs.declared.Unwritten.{Unwritten}
@@ -32,6 +33,8 @@ use Rattle.files.specs.declared.Unwritten.TheVariants.{BadField, NoRoom}
 use Rattle.files.proofs.BothWays.{record_length, record_range, slot_head_length, slotted_length}
 use Rattle.files.proofs.Records.{not_one, message_size}
 use Rattle.files.proofs.Same.{answered_of, held_of, HandedOver}
+use Rattle.std.specs.Prelude.{Option, None, Some, Ok, Err}
+use Rattle.files.specs.declared.Unreadable.{Unreadable}
 
 -- ---- the bytes of a number
 
@@ -95,13 +98,6 @@ cut_byte : (v : ℕ) → le_of 1 (v % 256) ≡ le_of 1 v
 unfolding le_of
 cut_byte v = let e : v % 256 % 256 ≡ v % 256 = omega arith in ap (λ (b : ℕ). b ∷ []) e
 
--- the count byte by the nature that was matched
-pub home_byte : (nature : Nature) (count : ℕ) → count < 256 → nature ≡ National → count ≡ count_byte nature count % 256
-home_byte nature count h e = rw e (omega arith)
-
-pub abroad_byte : (nature : Nature) (count r : ℕ) → nature ≡ International → r ≡ (128 + count) % 2 ^ 8 → r ≡ count_byte nature count % 256
-abroad_byte nature count r e f = f ∙ rw e refl
-
 -- byte: the count byte as it was made
 pub number_as : (l₀ l₁ l₂ : List ℕ) (i j k byte : ℕ) (n : Number) → byte ≡ count_byte n.nature n.count % 256 → Put l₀ i (le_of 1 byte) l₁ j
     → Put l₁ j (le_of 8 n.value) l₂ k
@@ -110,25 +106,34 @@ number_as l₀ l₁ l₂ i j k byte n e p q =
     let counted = count_byte n.nature n.count in
     put_field 1 counted (8 ∷ []) (n.value ∷ []) (put_as (ap (le_of 1) e ∙ cut_byte counted) p) (put_last 8 n.value q)
 
--- a number, or a duration, that is there or not: present is 1 or 0
-module _ (l new : List ℕ) (i j present : ℕ) where
-  pub number_put : (n : Number) → present ≡ 1 → Put l i (bytes_of (number_fields 1) (number_values n)) new j
-      → Put l i (bytes_of (number_fields present) (number_values n)) new j
-  number_put n e p = put_as (ap (λ (k : ℕ). bytes_of (number_fields k) (number_values n)) (sym e)) p
+-- a number, or a duration, that is there or not: k is 1 or 0
+module _ (k : ℕ) where
+  -- the room that it takes
+  pub room_if : (n : ℕ) → if_so (eqb k 1) n 0 ≤ n * k
+  unfolding if_eq
+  room_if n = both_eq k 1 (λ (x : ℕ). x ≤ n * k) n 0 (λ e. rw e (omega arith)) (λ _. omega arith)
 
-  pub duration_put : (v : ℕ) → present ≡ 1 → Put l i (le_of 4 v) new j → Put l i (le_of (4 * present) v) new j
-  duration_put v e p = put_as (ap (λ (k : ℕ). le_of (4 * k) v) (sym e)) p
+  module _ (h : k < 2) where
+    number_if_there : (n : Number) → if_so (eqb k 1) (bytes_of (number_fields 1) (number_values n)) [] ≡ bytes_of (number_fields k) (number_values n)
+    unfolding if_eq bytes_of le_of
+    number_if_there n =
+        both_eq k 1 (λ (t : List ℕ). t ≡ bytes_of (number_fields k) (number_values n)) (bytes_of (number_fields 1) (number_values n)) []
+        (λ e. ap (λ (j : ℕ). bytes_of (number_fields j) (number_values n)) (sym e))
+        (λ f. ap (λ (j : ℕ). bytes_of (number_fields j) (number_values n)) (not_one k h f))
 
-module _ (l : List ℕ) (i : ℕ) where
-  pub number_not_put : (n : Number) (present : ℕ) → present < 2 → (present ≡ 1 → ⊥)
-      → Put l i (bytes_of (number_fields present) (number_values n)) l i
-  unfolding bytes_of le_of
-  number_not_put n present g h =
-      put_as {s = bytes_of (number_fields 0) (number_values n)} (ap (λ (k : ℕ). bytes_of (number_fields k) (number_values n)) (not_one present g h)) (put_none l i)
+    duration_if_there : (v : ℕ) → if_so (eqb k 1) (le_of 4 v) [] ≡ le_of (4 * k) v
+    unfolding if_eq le_of
+    duration_if_there v =
+        both_eq k 1 (λ (t : List ℕ). t ≡ le_of (4 * k) v) (le_of 4 v) [] (λ e. ap (λ (j : ℕ). le_of (4 * j) v) (sym e))
+        (λ f. ap (λ (j : ℕ). le_of (4 * j) v) (not_one k h f))
 
-  pub duration_not_put : (v present : ℕ) → present < 2 → (present ≡ 1 → ⊥) → Put l i (le_of (4 * present) v) l i
-  unfolding le_of
-  duration_not_put v present g h = put_as {s = le_of (4 * 0) v} (ap (λ (k : ℕ). le_of (4 * k) v) (not_one present g h)) (put_none l i)
+    module _ (l new : List ℕ) (i j : ℕ) where
+      pub number_put : (n : Number) → Put l i (if_so (eqb k 1) (bytes_of (number_fields 1) (number_values n)) []) new j
+          → Put l i (bytes_of (number_fields k) (number_values n)) new j
+      number_put n p = put_as (number_if_there n) p
+
+      pub duration_put : (v : ℕ) → Put l i (if_so (eqb k 1) (le_of 4 v) []) new j → Put l i (le_of (4 * k) v) new j
+      duration_put v p = put_as (duration_if_there v) p
 
 -- ---- records
 
@@ -223,49 +228,64 @@ pub sizes : (15 ≡ 2 + length_with opening_fields) × (14 ≡ 2 + length_with a
 unfolding size_of
 sizes = (refl, refl, refl, refl, refl)
 
+-- .. of whole records
+pub sized : (e : Event) (n : ℕ) → n ≡ 2 + length_with (fields_of e) → n ≡ length (record_of e)
+sized e n h = h ∙ sym (record_length e)
+
 pub message_sized : (n parts : ℕ) → n ≡ 2 + length_of 3 parts → n ≡ 2 + length_with (message_fields parts)
 message_sized n parts e = e ∙ ap (λ (k : ℕ). 2 + k) (length_three parts)
 
--- the event e that was matched: the size of its record, the room for it, and what was put
-module _ (e f : Event) (g : e ≡ f) where
-  pub size_of_event : (n : ℕ) → n ≡ 2 + length_with (fields_of f) → n ≡ length (record_of e)
-  size_of_event n h = h ∙ sym (record_length f) ∙ ap (λ (x : Event). length (record_of x)) (sym g)
+-- ---- what is answered and left. n: the record's length, as it was measured
 
-  pub room_of_event : (n : ℕ) (out : List ℕ) → n ≡ 2 + length_with (fields_of f) → length (record_of e) ≤ length out → n ≤ length out
-  room_of_event n out h l = omega (arith, size_of_event n h)
-
-  pub event_put : (l new : List ℕ) (r : ℕ) → Put l 0 (record_of f) new r → Put l 0 (record_of e) new r
-  event_put l new r p = put_as (ap record_of (sym g)) p
-
--- ---- what is answered and left. t: the ordinal of the first field out of range, where there is one; n: the record's length, as it was
--- measured
+-- what `judge` says of a field that is bad, of a record's length and of the room
+abbrev pub Judged : Option ℕ → ℕ → ℕ → Result (Unit {0}) Unwritten → Type 0
+Judged bad n room r =
+    record {
+      field : IfSome bad (λ k. r ≡ Err (BadField k));
+      narrow : bad ≡ None → room < n → r ≡ Err NoRoom;
+      good : bad ≡ None → n ≤ room → r ≡ Ok tt;
+    }
 
 module _ (e : Event) (out : List ℕ) where
   some_bad : (b : Bool) → event_ok e ≡ b → (bad_field_of e ≡ 0 → ⊥) → event_ok e ≡ false
   some_bad true h i = absurd (i ((none_bad_exactly e).1 h))
   some_bad false h i = h
 
-  pub bad_as : (t : ℕ) → Some t ≡ ordinal (bad_field_of e) → (Err (BadField t) ≡ written_of e out) × (out ≡ left_of e out)
+  -- why nothing is written, and that nothing is; or that the record is to be written
+  abbrev pub Follows : ℕ → Result (Unit {0}) Unwritten → Type 0
+  Follows n (Ok _) = (event_ok e ≡ true) × (n ≤ length out)
+  Follows n (Err why) = (Err why ≡ written_of e out) × (out ≡ left_of e out)
+
+  bad_as : (t : ℕ) → Some t ≡ ordinal (bad_field_of e) → (Err (BadField t) ≡ written_of e out) × (out ≡ left_of e out)
   unfolding written_of left_of
   bad_as t h =
       let s = some_told _ _ h in
       let b = some_bad (event_ok e) refl s.1 in
       (no_so _ _ _ _ b (ap (λ (k : ℕ). Err (BadField k)) s.0), no_so _ _ _ _ b refl)
 
-  module _ (n : ℕ) (h : None ≡ ordinal (bad_field_of e)) (size : n ≡ length (record_of e)) where
-    good : event_ok e ≡ true
-    good = (none_bad_exactly e).0 (none_told _ h)
-
-    pub narrow_as : length out < n → (Err NoRoom ≡ written_of e out) × (out ≡ left_of e out)
+  module _ (n : ℕ) (size : n ≡ length (record_of e)) where
+    narrow_as : event_ok e ≡ true → length out < n → (Err NoRoom ≡ written_of e out) × (out ≡ left_of e out)
     unfolding written_of left_of
-    narrow_as f =
+    narrow_as good f =
         let k : length out < length (record_of e) = omega (arith, size) in
         (yes_so _ _ _ _ good (yes_lt _ _ _ _ _ k refl), yes_so _ _ _ _ good (yes_lt _ _ _ _ _ k refl))
 
-    pub whole_as : (new : List ℕ) (r : ℕ) → n ≤ length out → Put out 0 (record_of e) new r
+    judged_by : (bad : Option ℕ) (r : Result (Unit {0}) Unwritten) → bad ≡ ordinal (bad_field_of e) → Judged bad n (length out) r → Follows n r
+    judged_by (Some t) r h j = subst (Follows n) (sym j.field) (bad_as t h)
+    judged_by None r h j =
+        let good : event_ok e ≡ true = (none_bad_exactly e).0 (none_told _ h) in
+        both_lt (length out) n (λ (_ : ℕ). Follows n r) 0 0 (λ l. subst (Follows n) (sym (j.narrow refl l)) (narrow_as good l))
+        (λ l. subst (Follows n) (sym (j.good refl l)) (good, l))
+
+    -- the answer of `judge` that was matched
+    pub judged_as : (bad : Option ℕ) (r s : Result (Unit {0}) Unwritten) → r ≡ s → bad ≡ ordinal (bad_field_of e)
+        → Judged bad n (length out) r → Follows n s
+    judged_as bad r s g h j = subst (Follows n) g (judged_by bad r h j)
+
+    pub whole_as : Follows n (Ok tt) → (new : List ℕ) (r : ℕ) → Put out 0 (record_of e) new r
         → (Ok r ≡ written_of e out) × (new ≡ left_of e out)
     unfolding written_of left_of
-    whole_as new r f p =
+    whole_as (good, f) new r p =
         let k : length (record_of e) ≤ length out = omega (arith, size) in
         let s : new ≡ record_of e ++ drop (length (record_of e)) out =
         p.bytes ∙ sets-eq (record_of e) out 0 (omega arith) ∙ ap (λ (m : ℕ). record_of e ++ drop m out) (zero-add (length (record_of e))) in (

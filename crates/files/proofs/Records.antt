@@ -9,18 +9,19 @@ use Rattle.rows.specs.declared.Event.TheVariants.{Opening, Ask, FromAccess, Time
 use Rattle.rows.specs.declared.Nature.{Nature}
 use Rattle.rows.specs.declared.Number.{Number}
 use Rattle.text.specs.Choose.{if_lt, if_eq, if_so}
+use Rattle.files.specs.declared.Frame.{Frame}
 use Rattle.text.proofs.Cases.{yes_lt, no_lt, no_le, yes_eq, no_eq, both_lt, both_le, both_eq}
 use Rattle.files.specs.Bytes.{byte_at, le_at, part}
 use Rattle.files.specs.Bodies.{nature_of, count_of, number_if, message_from, opening_at, ask_at, component_of, message_at, access_at, time_at, event_at}
-use Rattle.files.specs.Bodies.{body_at, read_by, read_at, plain_at}
+use Rattle.files.specs.Bodies.{body_at, Reading, got, read_by, read_at, plain_at}
+use Rattle.files.specs.declared.Record.{Record}
 use Rattle.files.specs.Fields.{number_fields, carried_fields, message_fields, size_of, values_at}
-use Rattle.files.specs.Frames.{length_with, length_of, plain_of, plain_frame, kindless_of, outer_of, in_slot, slotted_frame, frame_at}
-use Rattle.files.specs.declared.Frame.{Frame}
-use Rattle.files.specs.Lent.{taken_at}
+use Rattle.files.specs.Frames.{Framing, framed, length_with, length_of, plain_of, plain_frame, kindless_of, outer_of, in_slot, unless_stopped, slotted_frame, frame_at}
 use Rattle.files.specs.Places.{place_after}
-use Rattle.files.specs.declared.Read.{Read}
-use Rattle.files.specs.declared.Taken.{Taken}
 use Rattle.files.specs.declared.Where.{Where}
+use Rattle.std.specs.Prelude.{None, Some, Result as OkOrErr, Ok, Err}
+use Rattle.files.specs.declared.Unreadable.{Unreadable}
+use Rattle.files.specs.declared.Unreadable.TheVariants.{CutShort, BadLength, UnknownKind}
 
 pub past_end : (s : List ℕ) (i : ℕ) → length s ≤ i → 0 ≡ byte_at s i
 past_end s i h = sym (get_or-eq_default s 0 h)
@@ -124,34 +125,35 @@ message_as s b kind cause code n parts duration component calling called e f g h
 
 -- ---- a frame, by the numbers that were read
 
-pub plain_as : (s : List ℕ) (at len kind parts wide want : ℕ) (r : Frame) → r ≡ plain_of (length s) at len kind want
+pub plain_as : (s : List ℕ) (at len kind parts wide want : ℕ) (r : Framing) → r ≡ plain_of (length s) at len kind want
     → len ≡ le_at 2 s at → kind ≡ le_at 2 s (at + 2) → parts ≡ byte_at s (at + 8) → wide ≡ parts → want ≡ length_of kind wide → r ≡ plain_frame s at
 unfolding plain_frame
 plain_as s at len kind parts wide want r e f g h i j = e ∙ rw (j, i, h, g, f)
 
 -- a record of kind 7: what stops it, or what stands inside
-module _ (s : List ℕ) (at len inner number : ℕ) (e : len ≡ le_at 2 s at) (f : inner ≡ le_at 2 s (at + 6)) (g : number ≡ outer_of (length s) at len inner) where
-  outer_is : number ≡ outer_of (length s) at (le_at 2 s at) (le_at 2 s (at + 6))
+module _ (s : List ℕ) (at len inner : ℕ) (outer : OkOrErr (Unit {0}) Unreadable)
+    (e : len ≡ le_at 2 s at) (f : inner ≡ le_at 2 s (at + 6)) (g : outer ≡ outer_of (length s) at len inner) where
+  outer_is : outer ≡ outer_of (length s) at (le_at 2 s at) (le_at 2 s (at + 6))
   outer_is = g ∙ rw (e, f)
 
-  pub slotted_in : number ≡ 0 → (slot : ℕ) (inside r : Frame) → slot ≡ le_at 2 s (at + 4) → inside ≡ plain_frame s (at + 6) → r ≡ in_slot slot inside → r ≡ slotted_frame s at
+  pub slotted_in : outer ≡ Ok tt → (slot : ℕ) (inside r : Framing) → slot ≡ le_at 2 s (at + 4) → inside ≡ plain_frame s (at + 6) → r ≡ in_slot slot inside → r ≡ slotted_frame s at
   unfolding slotted_frame
-  slotted_in z slot inside r h i j = yes_eq _ _ _ _ _ (sym outer_is ∙ z) (j ∙ rw (h, i))
+  slotted_in z slot inside r h i j = rw (sym outer_is ∙ z) (j ∙ rw (h, i))
 
-  pub slotted_stop : (number ≡ 0 → ⊥) → Frame.Stop number ≡ slotted_frame s at
+  pub slotted_stop : (stop : Unreadable) → outer ≡ Err stop → Err stop ≡ slotted_frame s at
   unfolding slotted_frame
-  slotted_stop z = no_eq _ _ _ _ _ (λ h. z (outer_is ∙ h)) (ap Frame.Stop outer_is)
+  slotted_stop stop z = rw (sym outer_is ∙ z) refl
 
 -- any record
-pub frame_kindless : (s : List ℕ) (at len number : ℕ) → length s < at + 4 → len ≡ le_at 2 s at → number ≡ kindless_of (length s) at len → Frame.Stop number ≡ frame_at s at
+pub frame_kindless : (s : List ℕ) (at len : ℕ) (stop : Unreadable) → length s < at + 4 → len ≡ le_at 2 s at → stop ≡ kindless_of (length s) at len → Err stop ≡ frame_at s at
 unfolding frame_at
-frame_kindless s at len number h e f = yes_lt _ _ _ _ _ h (ap Frame.Stop (f ∙ rw e))
+frame_kindless s at len stop h e f = yes_lt _ _ _ _ _ h (let g : stop ≡ kindless_of (length s) at (le_at 2 s at) = f ∙ rw e in cc)
 
-pub frame_slotted : (s : List ℕ) (at kind : ℕ) (r : Frame) → at + 4 ≤ length s → kind ≡ le_at 2 s (at + 2) → kind ≡ 7 → r ≡ slotted_frame s at → r ≡ frame_at s at
+pub frame_slotted : (s : List ℕ) (at kind : ℕ) (r : Framing) → at + 4 ≤ length s → kind ≡ le_at 2 s (at + 2) → kind ≡ 7 → r ≡ slotted_frame s at → r ≡ frame_at s at
 unfolding frame_at
 frame_slotted s at kind r h e f g = no_lt _ _ _ _ _ h (yes_eq _ _ _ _ _ (sym e ∙ f) g)
 
-pub frame_plain : (s : List ℕ) (at kind : ℕ) (r : Frame) → at + 4 ≤ length s → kind ≡ le_at 2 s (at + 2) → (kind ≡ 7 → ⊥) → r ≡ plain_frame s at → r ≡ frame_at s at
+pub frame_plain : (s : List ℕ) (at kind : ℕ) (r : Framing) → at + 4 ≤ length s → kind ≡ le_at 2 s (at + 2) → (kind ≡ 7 → ⊥) → r ≡ plain_frame s at → r ≡ frame_at s at
 unfolding frame_at
 frame_plain s at kind r h e f g = no_lt _ _ _ _ _ h (no_eq _ _ _ _ _ (λ z. f (e ∙ z)) g)
 
@@ -161,44 +163,32 @@ unfolding size_of
 message_size parts = omega arith
 
 -- by the frame f that was found
-pub by_stop : (s : List ℕ) (at n : ℕ) (f : Frame) → f ≡ Frame.Stop n → Read.Stop n ≡ read_by s at f
-by_stop s at n f e = ap (read_by s at) (sym e)
+pub by_body : (s : List ℕ) (at kind next b : ℕ) (w : Where) (f : Framing) (v : Event) → f ≡ framed w kind next → b ≡ body_at w at → v ≡ event_at s b kind
+    → got w v next ≡ Some (read_by s at f)
+by_body s at kind next b w f v e g h = ap (λ (x : Event). got w x next) (h ∙ rw g) ∙ ap (λ (x : Framing). Some (read_by s at x)) (sym e)
 
-pub by_body : (s : List ℕ) (at kind next b : ℕ) (w : Where) (f : Frame) (v : Event) → f ≡ Frame.Body w kind next → b ≡ body_at w at → v ≡ event_at s b kind
-    → Read.Got w v next ≡ read_by s at f
-by_body s at kind next b w f v e g h = ap (λ (x : Event). Read.Got w x next) (h ∙ rw g) ∙ ap (read_by s at) (sym e)
-
-pub read_as : (s : List ℕ) (at : ℕ) (f : Frame) (r : Read) → at < length s → f ≡ frame_at s at → r ≡ read_by s at f → r ≡ read_at s at
+pub read_as : (s : List ℕ) (at : ℕ) (f : Framing) (r : Reading) → at < length s → f ≡ frame_at s at → r ≡ Some (read_by s at f) → r ≡ read_at s at
 unfolding read_at
-read_as s at f r h e g = no_le _ _ _ _ _ h (g ∙ ap (read_by s at) e)
+read_as s at f r h e g = no_le _ _ _ _ _ h (g ∙ ap (λ (x : Framing). Some (read_by s at x)) e)
 
-pub plain_read_as : (s : List ℕ) (at : ℕ) (f : Frame) (r : Read) → at < length s → f ≡ plain_frame s at → r ≡ read_by s at f → r ≡ plain_at s at
+pub plain_read_as : (s : List ℕ) (at : ℕ) (f : Framing) (r : Reading) → at < length s → f ≡ plain_frame s at → r ≡ Some (read_by s at f) → r ≡ plain_at s at
 unfolding plain_at
-plain_read_as s at f r h e g = no_le _ _ _ _ _ h (g ∙ ap (read_by s at) e)
-
-pub taken_as : (s : List ℕ) (at next : ℕ) (found : Read) → found ≡ read_at s at → next ≡ place_after found at → record { found = found; next = next } ≡ taken_at s at
-unfolding taken_at
-taken_as s at next found e f = rw (f, e)
-
--- and what one reading gave, by its two parts
-pub taken_is : (s : List ℕ) (at : ℕ) (t : Taken) → t ≡ taken_at s at → (t.found ≡ read_at s at) × (t.next ≡ place_after (read_at s at) at)
-unfolding taken_at
-taken_is s at t e = (ap (λ (x : Taken). x.found) e, ap (λ (x : Taken). x.next) e)
+plain_read_as s at f r h e g = no_le _ _ _ _ _ h (g ∙ ap (λ (x : Framing). Some (read_by s at x)) e)
 
 -- ---- a record takes 4 bytes at least, and ends within the file
 
-abbrev pub FrameWithin : ℕ → ℕ → Frame → Type 0
-FrameWithin n at (Frame.Stop k) = Unit {0}
-FrameWithin n at (Frame.Body w kind next) = (at + 4 ≤ next) × (next ≤ n)
+abbrev pub FrameWithin : ℕ → ℕ → Framing → Type 0
+FrameWithin n at (Err k) = Unit {0}
+FrameWithin n at (Ok body) = (at + 4 ≤ body.next) × (body.next ≤ n)
 
-abbrev pub Within : ℕ → ℕ → Read → Type 0
-Within n at Read.End = Unit {0}
-Within n at (Read.Stop k) = Unit {0}
-Within n at (Read.Got w e next) = (at + 4 ≤ next) × (next ≤ n)
+abbrev pub Within : ℕ → ℕ → Reading → Type 0
+Within n at None = Unit {0}
+Within n at (Some (Err k)) = Unit {0}
+Within n at (Some (Ok found)) = (at + 4 ≤ found.next) × (found.next ≤ n)
 
 -- what holds of both ways of a plain frame, by what led to each
-pub plain_ways : (n at len kind want : ℕ) (P : Frame → Type 0) → P (Frame.Stop 5) → P (Frame.Stop 6) → P (Frame.Stop 7)
-    → (2 ≤ len → len ≤ 29 → at + 2 + len ≤ n → (want ≡ 0 → ⊥) → len ≡ want → P (Frame.Body Where.Plain kind (at + 2 + len)))
+pub plain_ways : (n at len kind want : ℕ) (P : Framing → Type 0) → P (Err CutShort) → P (Err BadLength) → P (Err UnknownKind)
+    → (2 ≤ len → len ≤ 29 → at + 2 + len ≤ n → (want ≡ 0 → ⊥) → len ≡ want → P (framed Where.Plain kind (at + 2 + len)))
     → P (plain_of n at len kind want)
 unfolding plain_of
 plain_ways n at len kind want P five six seven body =
@@ -210,18 +200,18 @@ plain_ways n at len kind want P five six seven body =
     both_eq _ _ P _ _ (λ e. body h i g z e) (λ _. six)
 
 -- and of a frame of any kind: where it stops, it stops with 5, 6 or 7; else it is a plain frame, or holds one
-pub frame_ways : (s : List ℕ) (at : ℕ) (P : Frame → Type 0) → P (Frame.Stop 5) → P (Frame.Stop 6) → P (Frame.Stop 7)
+pub frame_ways : (s : List ℕ) (at : ℕ) (P : Framing → Type 0) → P (Err CutShort) → P (Err BadLength) → P (Err UnknownKind)
     → (at + 4 ≤ length s → (le_at 2 s (at + 2) ≡ 7 → ⊥) → P (plain_frame s at))
     → (at + 4 ≤ length s → le_at 2 s (at + 2) ≡ 7 → 8 ≤ le_at 2 s at → le_at 2 s at ≤ 35 → at + 2 + le_at 2 s at ≤ length s → le_at 2 s (at + 6) + 6 ≡ le_at 2 s at
     → P (in_slot (le_at 2 s (at + 4)) (plain_frame s (at + 6))))
     → P (frame_at s at)
-unfolding frame_at slotted_frame kindless_of outer_of if_eq if_so
+unfolding frame_at slotted_frame kindless_of outer_of
 frame_ways s at P five six seven plain slotted =
     both_lt _ _ P _ _ (λ _. kindless) λ h.
     both_eq _ _ P _ _ (λ k. outer h k) (λ k. plain h k)
   where
-    Q : ℕ → Type 0
-    Q n = P (Frame.Stop n)
+    Q : Unreadable → Type 0
+    Q e = P (Err e)
 
     kindless : Q (kindless_of (length s) at (le_at 2 s at))
     kindless =
@@ -229,16 +219,16 @@ frame_ways s at P five six seven plain slotted =
         both_lt _ _ Q _ _ (λ _. six) λ _.
         both_lt _ _ Q _ _ (λ _. six) (λ _. five)
 
-    R : ℕ → Type 0
-    R n = P (if_eq n 0 (in_slot (le_at 2 s (at + 4)) (plain_frame s (at + 6))) (Frame.Stop n))
+    R : OkOrErr (Unit {0}) Unreadable → Type 0
+    R o = P (unless_stopped o (in_slot (le_at 2 s (at + 4)) (plain_frame s (at + 6))))
 
-    six-stops : R 6
+    six-stops : R (Err BadLength)
     six-stops = six
 
-    five-stops : R 5
+    five-stops : R (Err CutShort)
     five-stops = five
 
-    goes : P (in_slot (le_at 2 s (at + 4)) (plain_frame s (at + 6))) → R 0
+    goes : P (in_slot (le_at 2 s (at + 4)) (plain_frame s (at + 6))) → R (Ok tt)
     goes p = p
 
     outer : at + 4 ≤ length s → le_at 2 s (at + 2) ≡ 7 → R (outer_of (length s) at (le_at 2 s at) (le_at 2 s (at + 6)))
@@ -255,18 +245,18 @@ plain_within s at =
     plain_ways _ at _ _ _ (FrameWithin (length s) at) tt tt tt (λ a b c d e. (omega (arith, a), c))
 
 -- inside a record of kind 7, which begins 6 bytes before
-inside_within : (n at i : ℕ) (f : Frame) → FrameWithin n (at + 6) f → FrameWithin n at (in_slot i f)
-inside_within n at i (Frame.Stop k) h = tt
-inside_within n at i (Frame.Body w kind next) h = (omega (arith, h.0), h.1)
+inside_within : (n at i : ℕ) (f : Framing) → FrameWithin n (at + 6) f → FrameWithin n at (in_slot i f)
+inside_within n at i (Err k) h = tt
+inside_within n at i (Ok body) h = (omega (arith, h.0), h.1)
 
 frame_within : (s : List ℕ) (at : ℕ) → FrameWithin (length s) at (frame_at s at)
 frame_within s at =
     frame_ways s at (FrameWithin (length s) at) tt tt tt (λ _ _. plain_within s at)
     (λ _ _ _ _ _ _. inside_within (length s) at (le_at 2 s (at + 4)) (plain_frame s (at + 6)) (plain_within s (at + 6)))
 
-by_frame : (s : List ℕ) (at : ℕ) (f : Frame) → FrameWithin (length s) at f → Within (length s) at (read_by s at f)
-by_frame s at (Frame.Stop k) h = tt
-by_frame s at (Frame.Body w kind next) h = h
+by_frame : (s : List ℕ) (at : ℕ) (f : Framing) → FrameWithin (length s) at f → Within (length s) at (Some (read_by s at f))
+by_frame s at (Err k) h = tt
+by_frame s at (Ok body) h = h
 
 pub read_within : (s : List ℕ) (at : ℕ) → Within (length s) at (read_at s at)
 unfolding read_at

@@ -16,9 +16,12 @@ use Rattle.files.specs.Bytes.{le_at, le_of}
 use Rattle.files.specs.Fields.{size_of, values_at, bytes_of}
 use Rattle.files.specs.Frames.{length_of, plain_of, plain_frame, kindless_of, outer_of, slotted_frame, frame_at}
 use Rattle.files.specs.Write.{written_of, left_of, written_at, left_at, gives_back, slot_gives, slot_leaves, number_with}
-use Rattle.files.specs.declared.Read.{Read}
+use Rattle.files.specs.Bodies.{Reading, got, stopped}
 use Rattle.files.specs.declared.Where.TheVariants.{Plain, Slot}
 use Rattle.files.specs.declared.Unwritten.TheVariants.{BadField, NoRoom}
+use Rattle.std.specs.Prelude.{Option, None, Some}
+use Rattle.files.specs.declared.Unreadable.{Unreadable}
+use Rattle.files.specs.declared.Unreadable.TheVariants.{CutShort, BadLength, UnknownKind}
 
 own : Number
 own = record { nature = National; count = 7; value = 5550100 }
@@ -96,33 +99,33 @@ time_bytes = refl
 
 -- ---- what is read of it, at a place with bytes around it
 
-opening_read : read_at (99 ∷ 13 ∷ 0 ∷ 1 ∷ 0 ∷ 0 ∷ 8 ∷ 7 ∷ 20 ∷ 176 ∷ 84 ∷ 0 ∷ 0 ∷ 0 ∷ 0 ∷ 0 ∷ 99 ∷ []) 1 ≡ Read.Got Plain (Opening 0 8 own) 16
+opening_read : read_at (99 ∷ 13 ∷ 0 ∷ 1 ∷ 0 ∷ 0 ∷ 8 ∷ 7 ∷ 20 ∷ 176 ∷ 84 ∷ 0 ∷ 0 ∷ 0 ∷ 0 ∷ 0 ∷ 99 ∷ []) 1 ≡ got Plain (Opening 0 8 own) 16
 unfolding own read_at frame_at plain_frame plain_of length_of event_at opening_at number_if nature_of count_of size_of values_at le_at if_lt if_le if_eq if_so
 opening_read = refl
 
-request_read : read_at (99 ∷ 12 ∷ 0 ∷ 2 ∷ 0 ∷ 1 ∷ 7 ∷ 43 ∷ 176 ∷ 84 ∷ 0 ∷ 0 ∷ 0 ∷ 0 ∷ 0 ∷ 99 ∷ []) 1 ≡ Read.Got Plain (Ask 1 called) 15
+request_read : read_at (99 ∷ 12 ∷ 0 ∷ 2 ∷ 0 ∷ 1 ∷ 7 ∷ 43 ∷ 176 ∷ 84 ∷ 0 ∷ 0 ∷ 0 ∷ 0 ∷ 0 ∷ 99 ∷ []) 1 ≡ got Plain (Ask 1 called) 15
 unfolding called read_at frame_at plain_frame plain_of length_of event_at ask_at number_if nature_of count_of size_of values_at le_at if_lt if_le if_eq if_so
 request_read = refl
 
-abroad_read : read_at (99 ∷ 12 ∷ 0 ∷ 2 ∷ 0 ∷ 1 ∷ 135 ∷ 43 ∷ 176 ∷ 84 ∷ 0 ∷ 0 ∷ 0 ∷ 0 ∷ 0 ∷ 99 ∷ []) 1 ≡ Read.Got Plain (Ask 1 abroad) 15
+abroad_read : read_at (99 ∷ 12 ∷ 0 ∷ 2 ∷ 0 ∷ 1 ∷ 135 ∷ 43 ∷ 176 ∷ 84 ∷ 0 ∷ 0 ∷ 0 ∷ 0 ∷ 0 ∷ 99 ∷ []) 1 ≡ got Plain (Ask 1 abroad) 15
 unfolding abroad read_at frame_at plain_frame plain_of length_of event_at ask_at number_if nature_of count_of size_of values_at le_at if_lt if_le if_eq if_so
 abroad_read = refl
 
 message_read : read_at
     (99 ∷ 29 ∷ 0 ∷ 3 ∷ 0 ∷ 5 ∷ 0 ∷ 1 ∷ 3 ∷ 127 ∷ 143 ∷ 121 ∷ 223 ∷ 13 ∷ 134 ∷ 72 ∷ 112 ∷ 0 ∷ 0 ∷ 7 ∷ 43 ∷ 176 ∷ 84 ∷ 0 ∷ 0 ∷ 0 ∷ 0 ∷ 0 ∷ 120 ∷ 86 ∷ 52 ∷ 18 ∷ 99 ∷ []) 1
-    ≡ Read.Got Plain (message 5 0 (Invoke 3) 127 long called 305419896) 32
+    ≡ got Plain (message 5 0 (Invoke 3) 127 long called 305419896) 32
 unfolding message long called read_at frame_at plain_frame plain_of length_of event_at message_at component_of number_if nature_of count_of size_of values_at le_at if_lt if_le if_eq if_so
 message_read = refl
 
-access_read : read_at (99 ∷ 4 ∷ 0 ∷ 4 ∷ 0 ∷ 2 ∷ 12 ∷ 99 ∷ []) 1 ≡ Read.Got Plain (FromAccess 2 12) 7
+access_read : read_at (99 ∷ 4 ∷ 0 ∷ 4 ∷ 0 ∷ 2 ∷ 12 ∷ 99 ∷ []) 1 ≡ got Plain (FromAccess 2 12) 7
 unfolding read_at frame_at plain_frame plain_of length_of event_at access_at size_of values_at le_at if_lt if_le if_eq if_so
 access_read = refl
 
-expiry_read : read_at (99 ∷ 2 ∷ 0 ∷ 5 ∷ 0 ∷ 99 ∷ []) 1 ≡ Read.Got Plain Expiry 5
+expiry_read : read_at (99 ∷ 2 ∷ 0 ∷ 5 ∷ 0 ∷ 99 ∷ []) 1 ≡ got Plain Expiry 5
 unfolding read_at frame_at plain_frame plain_of length_of event_at size_of values_at le_at if_lt if_le if_eq if_so
 expiry_read = refl
 
-time_read : read_at (99 ∷ 6 ∷ 0 ∷ 6 ∷ 0 ∷ 60 ∷ 0 ∷ 0 ∷ 0 ∷ 99 ∷ []) 1 ≡ Read.Got Plain (Time 60) 9
+time_read : read_at (99 ∷ 6 ∷ 0 ∷ 6 ∷ 0 ∷ 60 ∷ 0 ∷ 0 ∷ 0 ∷ 99 ∷ []) 1 ≡ got Plain (Time 60) 9
 unfolding read_at frame_at plain_frame plain_of length_of event_at time_at size_of values_at le_at if_lt if_le if_eq if_so
 time_read = refl
 
@@ -206,60 +209,60 @@ unfolding message long called slotted_of slot_head record_of head_of bytes_of si
 longest_slotted_bytes = refl
 
 -- read at a place with bytes around them
-slotted_read : (read_at (99 ∷ 12 ∷ 0 ∷ 7 ∷ 0 ∷ 5 ∷ 0 ∷ 6 ∷ 0 ∷ 6 ∷ 0 ∷ 60 ∷ 0 ∷ 0 ∷ 0 ∷ 99 ∷ []) 1 ≡ Read.Got (Slot 5) (Time 60) 15)
-    × (read_at (99 ∷ 8 ∷ 0 ∷ 7 ∷ 0 ∷ 44 ∷ 1 ∷ 2 ∷ 0 ∷ 5 ∷ 0 ∷ 99 ∷ []) 1 ≡ Read.Got (Slot 300) Expiry 11)
+slotted_read : (read_at (99 ∷ 12 ∷ 0 ∷ 7 ∷ 0 ∷ 5 ∷ 0 ∷ 6 ∷ 0 ∷ 6 ∷ 0 ∷ 60 ∷ 0 ∷ 0 ∷ 0 ∷ 99 ∷ []) 1 ≡ got (Slot 5) (Time 60) 15)
+    × (read_at (99 ∷ 8 ∷ 0 ∷ 7 ∷ 0 ∷ 44 ∷ 1 ∷ 2 ∷ 0 ∷ 5 ∷ 0 ∷ 99 ∷ []) 1 ≡ got (Slot 300) Expiry 11)
 unfolding read_at frame_at plain_frame plain_of slotted_frame outer_of kindless_of length_of event_at time_at size_of values_at le_at if_lt if_le if_eq if_so
 slotted_read = (refl, refl)
 
 longest_slotted_read : read_at
     (35 ∷ 0 ∷ 7 ∷ 0 ∷ 5 ∷ 0 ∷ 29 ∷ 0 ∷ 3 ∷ 0 ∷ 5 ∷ 0 ∷ 1 ∷ 3 ∷ 127 ∷ 143 ∷ 121 ∷ 223 ∷ 13 ∷ 134 ∷ 72 ∷ 112 ∷ 0 ∷ 0 ∷ 7 ∷ 43 ∷ 176 ∷ 84 ∷ 0 ∷ 0 ∷ 0 ∷ 0 ∷ 0 ∷ 120 ∷ 86 ∷ 52 ∷ 18 ∷ []) 0
-    ≡ Read.Got (Slot 5) (message 5 0 (Invoke 3) 127 long called 305419896) 37
+    ≡ got (Slot 5) (message 5 0 (Invoke 3) 127 long called 305419896) 37
 unfolding message long called read_at frame_at plain_frame plain_of slotted_frame outer_of length_of event_at message_at component_of number_if nature_of count_of size_of values_at le_at if_lt if_le if_eq if_so
 longest_slotted_read = refl
 
 -- "6 if the inner length doesn't fill it": too short; too long, which is not 5; and before 7
-not_filled : (read_at (9 ∷ 0 ∷ 7 ∷ 0 ∷ 5 ∷ 0 ∷ 2 ∷ 0 ∷ 5 ∷ 0 ∷ 99 ∷ []) 0 ≡ Read.Stop 6)
-    × (read_at (8 ∷ 0 ∷ 7 ∷ 0 ∷ 5 ∷ 0 ∷ 3 ∷ 0 ∷ 5 ∷ 0 ∷ 99 ∷ []) 0 ≡ Read.Stop 6)
-    × (read_at (9 ∷ 0 ∷ 7 ∷ 0 ∷ 5 ∷ 0 ∷ 2 ∷ 0 ∷ 8 ∷ 0 ∷ 99 ∷ []) 0 ≡ Read.Stop 6)
+not_filled : (read_at (9 ∷ 0 ∷ 7 ∷ 0 ∷ 5 ∷ 0 ∷ 2 ∷ 0 ∷ 5 ∷ 0 ∷ 99 ∷ []) 0 ≡ stopped BadLength)
+    × (read_at (8 ∷ 0 ∷ 7 ∷ 0 ∷ 5 ∷ 0 ∷ 3 ∷ 0 ∷ 5 ∷ 0 ∷ 99 ∷ []) 0 ≡ stopped BadLength)
+    × (read_at (9 ∷ 0 ∷ 7 ∷ 0 ∷ 5 ∷ 0 ∷ 2 ∷ 0 ∷ 8 ∷ 0 ∷ 99 ∷ []) 0 ≡ stopped BadLength)
 unfolding read_at frame_at plain_frame plain_of slotted_frame outer_of kindless_of length_of event_at time_at size_of values_at le_at if_lt if_le if_eq if_so
 not_filled = (refl, refl, refl)
 
 -- "then 7": none of 1 to 6, and 7 is none of them; "then 6 for the kind": an expiry of three bytes
-inner_kind : (read_at (8 ∷ 0 ∷ 7 ∷ 0 ∷ 5 ∷ 0 ∷ 2 ∷ 0 ∷ 8 ∷ 0 ∷ []) 0 ≡ Read.Stop 7)
-    × (read_at (8 ∷ 0 ∷ 7 ∷ 0 ∷ 5 ∷ 0 ∷ 2 ∷ 0 ∷ 7 ∷ 0 ∷ []) 0 ≡ Read.Stop 7)
-    × (read_at (16 ∷ 0 ∷ 7 ∷ 0 ∷ 5 ∷ 0 ∷ 10 ∷ 0 ∷ 7 ∷ 0 ∷ 5 ∷ 0 ∷ 2 ∷ 0 ∷ 5 ∷ 0 ∷ 0 ∷ 0 ∷ []) 0 ≡ Read.Stop 7)
-    × (read_at (9 ∷ 0 ∷ 7 ∷ 0 ∷ 5 ∷ 0 ∷ 3 ∷ 0 ∷ 5 ∷ 0 ∷ 0 ∷ []) 0 ≡ Read.Stop 6)
+inner_kind : (read_at (8 ∷ 0 ∷ 7 ∷ 0 ∷ 5 ∷ 0 ∷ 2 ∷ 0 ∷ 8 ∷ 0 ∷ []) 0 ≡ stopped UnknownKind)
+    × (read_at (8 ∷ 0 ∷ 7 ∷ 0 ∷ 5 ∷ 0 ∷ 2 ∷ 0 ∷ 7 ∷ 0 ∷ []) 0 ≡ stopped UnknownKind)
+    × (read_at (16 ∷ 0 ∷ 7 ∷ 0 ∷ 5 ∷ 0 ∷ 10 ∷ 0 ∷ 7 ∷ 0 ∷ 5 ∷ 0 ∷ 2 ∷ 0 ∷ 5 ∷ 0 ∷ 0 ∷ 0 ∷ []) 0 ≡ stopped UnknownKind)
+    × (read_at (9 ∷ 0 ∷ 7 ∷ 0 ∷ 5 ∷ 0 ∷ 3 ∷ 0 ∷ 5 ∷ 0 ∷ 0 ∷ []) 0 ≡ stopped BadLength)
 unfolding read_at frame_at plain_frame plain_of slotted_frame outer_of kindless_of length_of event_at time_at size_of values_at le_at if_lt if_le if_eq if_so
 inner_kind = (refl, refl, refl, refl)
 
 -- "its length is 8 to 35": 36 is 6 whatever follows, and so is 7, if its bytes are there
-slotted_lengths : (read_at (36 ∷ 0 ∷ 7 ∷ 0 ∷ []) 0 ≡ Read.Stop 6)
-    × (read_at (36 ∷ 0 ∷ []) 0 ≡ Read.Stop 6)
-    × (read_at (7 ∷ 0 ∷ 7 ∷ 0 ∷ 5 ∷ 0 ∷ 1 ∷ 0 ∷ 5 ∷ []) 0 ≡ Read.Stop 6)
-    × (read_at (7 ∷ 0 ∷ 7 ∷ 0 ∷ 5 ∷ 0 ∷ []) 0 ≡ Read.Stop 5)
+slotted_lengths : (read_at (36 ∷ 0 ∷ 7 ∷ 0 ∷ []) 0 ≡ stopped BadLength)
+    × (read_at (36 ∷ 0 ∷ []) 0 ≡ stopped BadLength)
+    × (read_at (7 ∷ 0 ∷ 7 ∷ 0 ∷ 5 ∷ 0 ∷ 1 ∷ 0 ∷ 5 ∷ []) 0 ≡ stopped BadLength)
+    × (read_at (7 ∷ 0 ∷ 7 ∷ 0 ∷ 5 ∷ 0 ∷ []) 0 ≡ stopped CutShort)
 unfolding read_at frame_at plain_frame plain_of slotted_frame outer_of kindless_of length_of event_at time_at size_of values_at le_at if_lt if_le if_eq if_so
 slotted_lengths = (refl, refl, refl, refl)
 
 -- "30 to 35 with another kind stays 6", an unknown one too, also where bytes lack; "with the kind cut off 5"; kind 7 with bytes lacking is 5
-longer_kinds : (read_at (30 ∷ 0 ∷ 3 ∷ 0 ∷ []) 0 ≡ Read.Stop 6)
-    × (read_at (35 ∷ 0 ∷ 8 ∷ 0 ∷ []) 0 ≡ Read.Stop 6)
-    × (read_at (35 ∷ 0 ∷ 7 ∷ []) 0 ≡ Read.Stop 5)
-    × (read_at (30 ∷ 0 ∷ []) 0 ≡ Read.Stop 5)
-    × (read_at (35 ∷ 0 ∷ 7 ∷ 0 ∷ 5 ∷ 0 ∷ []) 0 ≡ Read.Stop 5)
-    × (read_at (8 ∷ 0 ∷ 7 ∷ 0 ∷ 5 ∷ 0 ∷ 2 ∷ 0 ∷ 5 ∷ []) 0 ≡ Read.Stop 5)
+longer_kinds : (read_at (30 ∷ 0 ∷ 3 ∷ 0 ∷ []) 0 ≡ stopped BadLength)
+    × (read_at (35 ∷ 0 ∷ 8 ∷ 0 ∷ []) 0 ≡ stopped BadLength)
+    × (read_at (35 ∷ 0 ∷ 7 ∷ []) 0 ≡ stopped CutShort)
+    × (read_at (30 ∷ 0 ∷ []) 0 ≡ stopped CutShort)
+    × (read_at (35 ∷ 0 ∷ 7 ∷ 0 ∷ 5 ∷ 0 ∷ []) 0 ≡ stopped CutShort)
+    × (read_at (8 ∷ 0 ∷ 7 ∷ 0 ∷ 5 ∷ 0 ∷ 2 ∷ 0 ∷ 5 ∷ []) 0 ≡ stopped CutShort)
 unfolding read_at frame_at plain_frame plain_of slotted_frame outer_of kindless_of length_of event_at time_at size_of values_at le_at if_lt if_le if_eq if_so
 longer_kinds = (refl, refl, refl, refl, refl, refl)
 
 -- a plain record's refusals stay as they were: a byte of length alone; 1; 29 with bytes lacking; an unknown kind
-plain_lengths : (read_at (6 ∷ []) 0 ≡ Read.Stop 5)
-    × (read_at (1 ∷ 0 ∷ []) 0 ≡ Read.Stop 6)
-    × (read_at (29 ∷ 0 ∷ 3 ∷ 0 ∷ []) 0 ≡ Read.Stop 5)
-    × (read_at (2 ∷ 0 ∷ 8 ∷ 0 ∷ []) 0 ≡ Read.Stop 7)
+plain_lengths : (read_at (6 ∷ []) 0 ≡ stopped CutShort)
+    × (read_at (1 ∷ 0 ∷ []) 0 ≡ stopped BadLength)
+    × (read_at (29 ∷ 0 ∷ 3 ∷ 0 ∷ []) 0 ≡ stopped CutShort)
+    × (read_at (2 ∷ 0 ∷ 8 ∷ 0 ∷ []) 0 ≡ stopped UnknownKind)
 unfolding read_at frame_at plain_frame plain_of slotted_frame outer_of kindless_of length_of event_at time_at size_of values_at le_at if_lt if_le if_eq if_so
 plain_lengths = (refl, refl, refl, refl)
 
 -- where plain records alone are read, 7 is an unknown kind
-slotted_not_plain : plain_at (8 ∷ 0 ∷ 7 ∷ 0 ∷ 5 ∷ 0 ∷ 2 ∷ 0 ∷ 5 ∷ 0 ∷ []) 0 ≡ Read.Stop 7
+slotted_not_plain : plain_at (8 ∷ 0 ∷ 7 ∷ 0 ∷ 5 ∷ 0 ∷ 2 ∷ 0 ∷ 5 ∷ 0 ∷ []) 0 ≡ stopped UnknownKind
 unfolding plain_at plain_frame plain_of length_of le_at if_lt if_le if_eq if_so
 slotted_not_plain = refl
 

@@ -9,11 +9,13 @@ use Rattle.files.specs.Fit.{answers, leaves}
 use Rattle.files.specs.Places.{place_after}
 use Rattle.files.specs.Words.{Says}
 use Rattle.files.specs.Write.{written_of, left_of, written_at, left_at, gives_back, slot_gives, slot_leaves}
-use Rattle.files.specs.declared.Read.{Read}
+use Rattle.files.specs.Bodies.{Reading, got, stopped}
 use Rattle.files.specs.declared.Reader.{Reader}
 use Rattle.files.specs.declared.Where.{Where}
 use Rattle.files.specs.declared.Where.TheVariants.{Plain, Slot}
 use Rattle.files.specs.declared.Unwritten.{Unwritten}
+use Rattle.std.specs.Prelude.{Option, None, Some, Ok, Err}
+use Rattle.files.specs.declared.Unreadable.{Unreadable}
 
 -- What `rev_listing` and `rev_dump` say, t being the listing or the dump: the number given back, and the bytes that the buffer then holds.
 abbrev pub Fitted : List ℕ → List ℕ → List ℕ → ℕ → List ℕ → Type 0
@@ -42,14 +44,14 @@ opened_same src p q = reader_is (same p.0 q.0) (same p.1 q.1)
 
 -- What `next` says of a reader that is `before` and then `after`: what it found where it stood, and where it then stands, over the same
 -- bytes.
-abbrev pub Moved : Reader → Read → Reader → Type 0
+abbrev pub Moved : Reader → Reading → Reader → Type 0
 Moved before f after =
     (f ≡ read_at before.src.now before.at)
     × (after.src ≡ before.src)
     × (after.at ≡ place_after (read_at before.src.now before.at) before.at)
 
 -- From one reader there is one thing found, and one reader after it.
-pub moved_same : (before : Reader) {f f' : Read} {after after' : Reader} →
+pub moved_same : (before : Reader) {f f' : Reading} {after after' : Reader} →
     Moved before f after → Moved before f' after' → (f ≡ f') × (after ≡ after')
 moved_same before p q = (same p.0 q.0, reader_is (same p.1 q.1) (same p.2 q.2))
 

@@ -25,28 +25,30 @@ use Rattle.files.specs.Places.{place_after, places_from, places_of}
 use Rattle.files.specs.Shown.{Ending, whole, unread, Contents, and_then, contents_from, contents_of, entries_of, named_all, row_at, own_events}
 use Rattle.files.specs.Shown.{Shown, shown_after, shown_of, shown_text, AnswersEntry, RefusesRecord}
 use Rattle.files.specs.Typed.{Entry}
-use Rattle.files.specs.declared.Frame.{Frame}
-use Rattle.files.specs.declared.Read.{Read}
+use Rattle.files.specs.Frames.{stop_number, Framing}
+use Rattle.files.specs.Bodies.{Reading, got, stopped}
 use Rattle.files.proofs.Records.{Within, read_within}
 use Rattle.files.proofs.Unread.{unread_number}
+use Rattle.std.specs.Prelude.{Option, None, Some, Ok, Err}
+use Rattle.files.specs.declared.Unreadable.{Unreadable}
 
 -- ---- Where something stands
 
 -- within the file something stands
-abbrev pub Stands : Read → Type 0
-Stands Read.End = ⊥
-Stands (Read.Stop n) = Unit {0}
-Stands (Read.Got w e next) = Unit {0}
+abbrev pub Stands : Reading → Type 0
+Stands None = ⊥
+Stands (Some (Err n)) = Unit {0}
+Stands (Some (Ok found)) = Unit {0}
 
-by_frame : (s : List ℕ) (at : ℕ) (f : Frame) → Stands (read_by s at f)
-by_frame s at (Frame.Stop n) = tt
-by_frame s at (Frame.Body w kind next) = tt
+by_frame : (s : List ℕ) (at : ℕ) (f : Framing) → Stands (Some (read_by s at f))
+by_frame s at (Err n) = tt
+by_frame s at (Ok body) = tt
 
 pub stands : (s : List ℕ) (at : ℕ) → at < length s → Stands (read_at s at)
 unfolding read_at
 stands s at h = both_le (length s) at Stands _ _ (λ g. absurd (omega arith)) (λ _. by_frame s at (frame_at s at))
 
-pub past : (s : List ℕ) (at : ℕ) → length s ≤ at → Read.End ≡ read_at s at
+pub past : (s : List ℕ) (at : ℕ) → length s ≤ at → None ≡ read_at s at
 unfolding read_at
 past s at h = yes_le _ _ _ _ _ h refl
 
@@ -57,17 +59,17 @@ no_places (suc k) s at h = sym (no_lt _ _ _ _ _ h refl)
 
 -- ---- No record is left out
 
-by_place : (k : ℕ) (s : List ℕ) (at : ℕ) (found : Read) → Within (length s) at found → length s ≤ at + suc k →
+by_place : (k : ℕ) (s : List ℕ) (at : ℕ) (found : Reading) → Within (length s) at found → length s ≤ at + suc k →
     ((next : ℕ) → length s ≤ next + k → contents_from (suc k) s next ≡ contents_from k s next) →
     and_then found (contents_from (suc k) s) ≡ and_then found (contents_from k s)
-by_place k s at Read.End w h i = refl
-by_place k s at (Read.Stop n) w h i = refl
-by_place k s at (Read.Got acts e next) w h i =
-    ap (λ (x : Contents). record { entries = record { acts = acts; event = e } ∷ x.entries; ending = x.ending }) (i next (omega (arith, w.0, h)))
+by_place k s at None w h i = refl
+by_place k s at (Some (Err n)) w h i = refl
+by_place k s at (Some (Ok found)) w h i =
+    ap (λ (x : Contents). record { entries = record { acts = found.acts; event = found.event } ∷ x.entries; ending = x.ending }) (i found.next (omega (arith, w.0, h)))
 
 one_enough : (k : ℕ) (s : List ℕ) (at : ℕ) → length s ≤ at + k → contents_from (suc k) s at ≡ contents_from k s at
 unfolding contents_from
-one_enough zero s at h = ap (λ (found : Read). and_then found (contents_from 0 s)) (sym (past s at (omega arith)))
+one_enough zero s at h = ap (λ (found : Reading). and_then found (contents_from 0 s)) (sym (past s at (omega arith)))
 one_enough (suc k) s at h = by_place k s at (read_at s at) (read_within s at) h (one_enough k s)
 
 -- Whoever looks for more records than a file has bytes finds no more.
@@ -101,7 +103,7 @@ text_after slots before n x =
     ++ numbered_line (ascii "END ") (n + length (shown_after before x.entries x.ending))
 
 -- a record and what comes after it, by what was found
-abbrev turn : List ℕ → Bool → ℕ → List Call → Read → List ℕ → List ℕ
+abbrev turn : List ℕ → Bool → ℕ → List Call → Reading → List ℕ → List ℕ
 turn s slots n row found places =
     record_text (n + 1) slots (slot_found found) (answer_by found row) ++ rest_of s slots (n + 1) (row_by found row) places
 
@@ -111,24 +113,24 @@ RestShown k s slots at before =
     rest_of s slots (length before) (row_at before) (places_from k s at) ≡ text_after slots before (length before) (contents_from k s at)
 
 module _ (k : ℕ) (s : List ℕ) (slots : Bool) (more : (at : ℕ) (before : List Entry) → RestShown k s slots at before) where
-  by_read : (found : Read) (before : List Entry) → Stands found →
+  by_read : (found : Reading) (before : List Entry) → Stands found →
       turn s slots (length before) (row_at before) found (places_from k s (place_after found (length s)))
       ≡ text_after slots before (length before) (and_then found (contents_from k s))
   unfolding rest_of place_after
-  by_read Read.End before h = absurd h
-  by_read (Read.Stop n) before h =
-      let t = record_text (length before + 1) slots 0 (refused_of n (get_or (row_at before) 0 unopened_call)) in
+  by_read None before h = absurd h
+  by_read (Some (Err n)) before h =
+      let t = record_text (length before + 1) slots 0 (refused_of (stop_number n) (get_or (row_at before) 0 unopened_call)) in
       ap (λ (ps : List ℕ). t ++ rest_of s slots (length before + 1) (row_at before) ps) (no_places k s (length s) (omega arith))
       ∙ ap (λ (u : List ℕ). u ++ numbered_line (ascii "END ") (length before + 1)) (sym (append-nil t))
-  by_read (Read.Got w e next) before h =
-      let y : Entry = record { acts = w; event = e } in
-      let t = record_text (length before + 1) slots (slot_of w) (answer_at (row_at before) (slot_of w) e) in
+  by_read (Some (Ok found)) before h =
+      let y : Entry = record { acts = found.acts; event = found.event } in
+      let t = record_text (length before + 1) slots (slot_of found.acts) (answer_at (row_at before) (slot_of found.acts) found.event) in
       let d = before ++ (y ∷ []) in
-      let x = contents_from k s next in
+      let x = contents_from k s found.next in
       let shown = shown_after d x.entries x.ending in
-      ap (λ (n : ℕ). t ++ rest_of s slots n (row_after (row_at before) (slot_of w) e) (places_from k s next)) (sym (one_more before y))
-      ∙ ap (λ (row : List Call). t ++ rest_of s slots (length d) row (places_from k s next)) (sym (row_on before y))
-      ∙ ap (λ (u : List ℕ). t ++ u) (more next d)
+      ap (λ (n : ℕ). t ++ rest_of s slots n (row_after (row_at before) (slot_of found.acts) found.event) (places_from k s found.next)) (sym (one_more before y))
+      ∙ ap (λ (row : List Call). t ++ rest_of s slots (length d) row (places_from k s found.next)) (sym (row_on before y))
+      ∙ ap (λ (u : List ℕ). t ++ u) (more found.next d)
       ∙ sym (append_assoc t (shown_text slots shown) (numbered_line (ascii "END ") (length d + length shown)))
       ∙ ap (λ (n : ℕ). t ++ shown_text slots shown ++ numbered_line (ascii "END ") n) (omega (arith, one_more before y))
 
@@ -142,7 +144,7 @@ rest_shown (suc k) s slots at before =
     _ _ (λ h. by_read k s slots (rest_shown k s slots) (read_at s at) before (stands s at h))
     (λ h.
     ap (numbered_line (ascii "END ")) (sym (add-zero (length before)))
-    ∙ ap (λ (found : Read). text_after slots before (length before) (and_then found (contents_from k s))) (past s at h))
+    ∙ ap (λ (found : Reading). text_after slots before (length before) (and_then found (contents_from k s))) (past s at h))
 
 -- The listing of a file is its header, the text of each record shown, and END with their count; with slots on all lines or on none.
 pub listing_shown : (s : List ℕ) →

@@ -11,9 +11,11 @@ use Rattle.files.specs.Listing.{is_slot, names_slot, names_in, names_slots}
 use Rattle.files.specs.Places.{place_after, places_from, places_of}
 use Rattle.files.specs.Shown.{and_then, contents_from, contents_of, entries_of}
 use Rattle.files.specs.Typed.{Entry}
-use Rattle.files.specs.declared.Read.{Read}
+use Rattle.files.specs.Bodies.{Reading, got, stopped}
 use Rattle.files.specs.declared.Where.{Where}
 use Rattle.files.proofs.Shown.{Stands, stands, past, no_places, some_some}
+use Rattle.std.specs.Prelude.{Option, None, Some, Ok, Err}
+use Rattle.files.specs.declared.Unreadable.{Unreadable}
 
 -- one of the entries names a slot
 abbrev some_names : List Entry → Bool
@@ -21,12 +23,12 @@ some_names [] = false
 some_names (x ∷ xs) = is_slot x.acts || some_names xs
 
 module _ (k : ℕ) (s : List ℕ) (more : (at : ℕ) → names_in s (places_from k s at) ≡ some_names (contents_from k s at).entries) where
-  by_read : (found : Read) → Stands found →
+  by_read : (found : Reading) → Stands found →
       (names_slot found || names_in s (places_from k s (place_after found (length s)))) ≡ some_names (and_then found (contents_from k s)).entries
   unfolding place_after names_in
-  by_read Read.End t = absurd t
-  by_read (Read.Stop n) t = ap (names_in s) (no_places k s (length s) (omega arith))
-  by_read (Read.Got w e next) t = ap (λ (b : Bool). is_slot w || b) (more next)
+  by_read None t = absurd t
+  by_read (Some (Err n)) t = ap (names_in s) (no_places k s (length s) (omega arith))
+  by_read (Some (Ok found)) t = ap (λ (b : Bool). is_slot found.acts || b) (more found.next)
 
 by_entries : (k : ℕ) (s : List ℕ) (at : ℕ) → names_in s (places_from k s at) ≡ some_names (contents_from k s at).entries
 unfolding places_from contents_from names_in
@@ -34,7 +36,7 @@ by_entries zero s at = refl
 by_entries (suc k) s at =
     both_lt at (length s) (λ (ps : List ℕ). names_in s ps ≡ some_names (and_then (read_at s at) (contents_from k s)).entries) _ _
     (λ h. by_read k s (by_entries k s) (read_at s at) (stands s at h))
-    (λ h. ap (λ (found : Read). some_names (and_then found (contents_from k s)).entries) (past s at h))
+    (λ h. ap (λ (found : Reading). some_names (and_then found (contents_from k s)).entries) (past s at h))
 
 abbrev OneNames : List Entry → Type 0
 OneNames xs = (k : ℕ) × (x : Entry) × (get_elem? xs k ≡ some x) × (is_slot x.acts ≡ true)

@@ -33,7 +33,7 @@ use Rattle.files.specs.Shown.{whole, contents_from, contents_of, entries_of, own
 use Rattle.files.specs.Typed.{AllBytes, TypedNumber, Typed, TypedWhere, Entry, Writable, file_of}
 use Rattle.files.specs.Words.{number_word}
 use Rattle.files.specs.Write.{number_of, bytes_written, gives_back, number_with, message_with}
-use Rattle.files.specs.declared.Read.{Read}
+use Rattle.files.specs.Bodies.{Reading, got, stopped}
 use Rattle.files.specs.declared.Where.{Where}
 use Rattle.files.specs.declared.Where.TheVariants.{Plain, Slot}
 use Rattle.files.specs.declared.Unwritten.{Unwritten}
@@ -53,6 +53,8 @@ use Rattle.files.proofs.Shown
 use Rattle.files.proofs.Shown.{Last}
 use Rattle.files.proofs.Slots
 use Rattle.files.proofs.TwoRooms
+use Rattle.std.specs.Prelude.{Option, None, Some, Ok, Err}
+use Rattle.files.specs.declared.Unreadable.{Unreadable}
 
 -- ---- From the bytes to the bill
 
@@ -140,28 +142,28 @@ host_hands = HostWrites.host_hands
 
 -- Where a record is read: a plain one exactly where a reader of plain records alone (`plain_at`) reads it, one at a slot exactly where six
 -- bytes name kind 7, that slot and a length that the record behind them fills (`Headed`), and that reader reads this one.
-pub read_exactly : (s : List ℕ) (at next : ℕ) (w : Where) (e : Event) → (read_at s at ≡ Read.Got w e next) ↔ FoundIn s at w e next
+pub read_exactly : (s : List ℕ) (at next : ℕ) (w : Where) (e : Event) → (read_at s at ≡ got w e next) ↔ FoundIn s at w e next
 read_exactly = BothWays.read_exactly
 
 -- What the writer writes, the reader gives back: at any place, whatever stands before and behind it.
 pub written_reads_back : (w : Where) (e : Event) → event_ok e ≡ true → Typed e → TypedWhere w → (p q : List ℕ) →
-    read_at (p ++ entry_of w e ++ q) (length p) ≡ Read.Got w e (length p + length (entry_of w e))
+    read_at (p ++ entry_of w e ++ q) (length p) ≡ got w e (length p + length (entry_of w e))
 written_reads_back = BothWays.written_reads_back
 
 -- What the reader accepts with every field in range, the writer writes back byte for byte, wherever there is room for it ..
-pub read_then_written : (s : List ℕ) → AllBytes s → (at next : ℕ) (w : Where) (e : Event) → read_at s at ≡ Read.Got w e next → event_ok e ≡ true →
+pub read_then_written : (s : List ℕ) → AllBytes s → (at next : ℕ) (w : Where) (e : Event) → read_at s at ≡ got w e next → event_ok e ≡ true →
     (old : List ℕ) → next - at ≤ length old →
     (answered_of w e old ≡ Ok (next - at)) × (held_of w e old ≡ take (next - at) (drop at s) ++ drop (next - at) old)
 read_then_written = HostWrites.read_then_written
 
 -- .. and, in range or not, what the reader accepts is the record of the event that it gives.
-pub read_writes_back : (s : List ℕ) → AllBytes s → (at next : ℕ) (w : Where) (e : Event) → read_at s at ≡ Read.Got w e next →
+pub read_writes_back : (s : List ℕ) → AllBytes s → (at next : ℕ) (w : Where) (e : Event) → read_at s at ≡ got w e next →
     (entry_of w e ≡ take (next - at) (drop at s)) × (next ≡ at + length (entry_of w e))
 read_writes_back = BothWays.read_writes_back
 
 -- What is read of bytes has numbers of their types, and what is written is bytes: so after a reading, or a writing, neither has to be asked
 -- for.
-pub read_typed : (s : List ℕ) → AllBytes s → (at next : ℕ) (w : Where) (e : Event) → read_at s at ≡ Read.Got w e next → Typed e × TypedWhere w
+pub read_typed : (s : List ℕ) → AllBytes s → (at next : ℕ) (w : Where) (e : Event) → read_at s at ≡ got w e next → Typed e × TypedWhere w
 read_typed = BothWays.read_typed
 
 pub record_bytes : (w : Where) (e : Event) → AllBytes (entry_of w e)
@@ -175,7 +177,7 @@ same_bytes_same_event = BothWays.same_bytes_same_event
 -- Every event has exactly one form, and one at each slot: two places of two files that are read as the same event, at the same slot or both
 -- plain, hold the same bytes.
 pub one_form : (s t : List ℕ) → AllBytes s → AllBytes t → (at next at' next' : ℕ) (w : Where) (e : Event) →
-    read_at s at ≡ Read.Got w e next → read_at t at' ≡ Read.Got w e next' → take (next - at) (drop at s) ≡ take (next' - at') (drop at' t)
+    read_at s at ≡ got w e next → read_at t at' ≡ got w e next' → take (next - at) (drop at s) ≡ take (next' - at') (drop at' t)
 one_form = BothWays.one_form
 
 -- A file of entries, their records one after another, is read as just these ..

@@ -18,11 +18,13 @@ use Rattle.files.specs.Lines.{numbered_line, record_text, longest_record}
 use Rattle.files.specs.Listing.{slot_found, slot_framed, after_frame, names_slot, names_framed, answer_of, row_by, index_of, rest_of, records_of, listing_by, names_in, names_slots, listing_of}
 use Rattle.files.specs.Places.{place_after, places_from, places_of}
 use Rattle.files.specs.Frames.{frame_at}
-use Rattle.files.specs.declared.Frame.{Frame}
-use Rattle.files.specs.declared.Read.{Read}
+use Rattle.files.specs.Frames.{stop_number, Framing, framed}
+use Rattle.files.specs.Bodies.{Reading, got, stopped}
 use Rattle.files.specs.declared.Where.{Where}
 use Rattle.files.proofs.Held.{Holds, holds_other, answered}
 use Rattle.files.proofs.Records.{Within, read_within, read_as}
+use Rattle.std.specs.Prelude.{Option, None, Some, Ok, Err}
+use Rattle.files.specs.declared.Unreadable.{Unreadable}
 
 or_false : (b : Bool) → (b || false) ≡ b
 or_false true = refl
@@ -40,11 +42,11 @@ first : (s : List ℕ) → Stands s 0 0 (length s)
 first s = record { within = omega arith; enough = omega arith; count = omega arith }
 
 -- from a place within the file the next one lies further on, and not past the end
-onward : (n at : ℕ) (rd : Read) → Within n at rd → at < n → (at < place_after rd n) × (place_after rd n ≤ n)
+onward : (n at : ℕ) (rd : Reading) → Within n at rd → at < n → (at < place_after rd n) × (place_after rd n ≤ n)
 unfolding place_after
-onward n at Read.End w h = (h, omega arith)
-onward n at (Read.Stop k) w h = (h, omega arith)
-onward n at (Read.Got acts e next) w h = (omega (arith, w), w.1)
+onward n at None w h = (h, omega arith)
+onward n at (Some (Err k)) w h = (h, omega arith)
+onward n at (Some (Ok found)) w h = (omega (arith, w), w.1)
 
 places_on : (k : ℕ) (s : List ℕ) (at : ℕ) → at < length s → at ∷ places_from k s (place_after (read_at s at) (length s)) ≡ places_from (suc k) s at
 unfolding places_from
@@ -56,7 +58,7 @@ places_done zero s at h = refl
 places_done (suc k) s at h = no_lt _ _ _ _ _ h refl
 
 -- f is what was read, `next` the place after it
-module _ (s : List ℕ) (at next : ℕ) (f : Read) (h : at < length s) (g : f ≡ read_at s at) (e : next ≡ place_after f (length s)) where
+module _ (s : List ℕ) (at next : ℕ) (f : Reading) (h : at < length s) (g : f ≡ read_at s at) (e : next ≡ place_after f (length s)) where
   moves : (at < next) × (next ≤ length s)
   moves = rw (e, g) (onward (length s) at (read_at s at) (read_within s at) h)
 
@@ -85,7 +87,7 @@ so_start s out₀ to₀ most rest =
     record { text = []; turns = length s; put = put_none out₀ to₀; left = refl; stands = first s; bound = omega arith }
 
 -- one turn puts a piece more
-module _ (s : List ℕ) (at next : ℕ) (f : Read) (h : at < length s) (g : f ≡ read_at s at) (e : next ≡ place_after f (length s)) where
+module _ (s : List ℕ) (at next : ℕ) (f : Reading) (h : at < length s) (g : f ≡ read_at s at) (e : next ≡ place_after f (length s)) where
   so_step : (out₀ whole piece out out' : List ℕ) (to₀ most to to' n : ℕ) (rest rest' : List ℕ → List ℕ) (i : So s out₀ to₀ whole most rest out to at n)
       → Put out to piece out' to' → to' ≤ to + most → ((ps : List ℕ) → piece ++ rest' ps ≡ rest (at ∷ ps)) → (k : ℕ) → i.turns ≡ suc k
       → So s out₀ to₀ whole most rest' out' to' next (n + 1)
@@ -144,7 +146,7 @@ module _ {s : List ℕ} {shown : Bool} {out₀ out : List ℕ} {to₀ to at n : 
   found_there d h e f g =
       rw (e, f, g) (record { listed = record { reached = l.reached; holds = holds_other l.holds index d h; so = l.so; names = l.names }; index_held = refl })
 
-listed_on : (s : List ℕ) (shown : Bool) (out₀ out out' : List ℕ) (to₀ to to' at next n slot index : ℕ) (named named' b names : Bool) (row : List Call) (held : ℕ) (call : Call) (f : Read) (o : Outcome)
+listed_on : (s : List ℕ) (shown : Bool) (out₀ out out' : List ℕ) (to₀ to to' at next n slot index : ℕ) (named named' b names : Bool) (row : List Call) (held : ℕ) (call : Call) (f : Reading) (o : Outcome)
     → Found s shown out₀ to₀ out to at n named index row held call → at < length s
     → f ≡ read_at s at → slot ≡ slot_found f → index ≡ index_of slot → b ≡ ltb index 64 → o ≡ answer_of f b call
     → names ≡ names_slot f → named' ≡ (named || names)
@@ -169,44 +171,44 @@ listed_on s shown out₀ out out' to₀ to to' at next n slot index named named'
     }
 
 -- the answer, by the frame that was found
-module _ (s : List ℕ) (at : ℕ) (f : Frame) (there : Bool) (c : Call) (o : Outcome) where
-  pub answer_stop : (n : ℕ) → f ≡ Frame.Stop n → o ≡ refused_of n c → o ≡ answer_of (read_by s at f) there c
-  answer_stop n e h = h ∙ ap (λ (x : Frame). answer_of (read_by s at x) there c) (sym e)
+module _ (s : List ℕ) (at : ℕ) (f : Framing) (there : Bool) (c : Call) (o : Outcome) where
+  pub answer_stop : (stop : Unreadable) (n : ℕ) → f ≡ Err stop → n ≡ stop_number stop → o ≡ refused_of n c → o ≡ answer_of (Some (read_by s at f)) there c
+  answer_stop stop n e g h = h ∙ ap (λ (k : ℕ). refused_of k c) g ∙ ap (λ (x : Framing). answer_of (Some (read_by s at x)) there c) (sym e)
 
-  pub answer_step : (w : Where) (kind next b : ℕ) (v : Event) → f ≡ Frame.Body w kind next → b ≡ body_at w at → v ≡ event_at s b kind → there ≡ true
-      → o ≡ step_of c v → o ≡ answer_of (read_by s at f) there c
+  pub answer_step : (w : Where) (kind next b : ℕ) (v : Event) → f ≡ framed w kind next → b ≡ body_at w at → v ≡ event_at s b kind → there ≡ true
+      → o ≡ step_of c v → o ≡ answer_of (Some (read_by s at f)) there c
   answer_step w kind next b v e g h t k = k ∙ rw (e, t, h, g)
 
-  pub answer_miss : (w : Where) (kind next : ℕ) → f ≡ Frame.Body w kind next → there ≡ false → o ≡ refused_of no_such_slot c → o ≡ answer_of (read_by s at f) there c
+  pub answer_miss : (w : Where) (kind next : ℕ) → f ≡ framed w kind next → there ≡ false → o ≡ refused_of no_such_slot c → o ≡ answer_of (Some (read_by s at f)) there c
   answer_miss w kind next e t k = k ∙ rw (e, t)
 
 -- by the frame that was found
-slot_by : (s : List ℕ) (at : ℕ) (f : Frame) → slot_framed f ≡ slot_found (read_by s at f)
-slot_by s at (Frame.Stop n) = refl
-slot_by s at (Frame.Body w kind next) = refl
+slot_by : (s : List ℕ) (at : ℕ) (f : Framing) → slot_framed f ≡ slot_found (Some (read_by s at f))
+slot_by s at (Err n) = refl
+slot_by s at (Ok body) = refl
 
-names_by : (s : List ℕ) (at : ℕ) (f : Frame) → names_framed f ≡ names_slot (read_by s at f)
-names_by s at (Frame.Stop n) = refl
-names_by s at (Frame.Body w kind next) = refl
+names_by : (s : List ℕ) (at : ℕ) (f : Framing) → names_framed f ≡ names_slot (Some (read_by s at f))
+names_by s at (Err n) = refl
+names_by s at (Ok body) = refl
 
-after_by : (s : List ℕ) (at stay : ℕ) (f : Frame) → after_frame f stay ≡ place_after (read_by s at f) stay
+after_by : (s : List ℕ) (at stay : ℕ) (f : Framing) → after_frame f stay ≡ place_after (Some (read_by s at f)) stay
 unfolding place_after
-after_by s at stay (Frame.Stop n) = refl
-after_by s at stay (Frame.Body w kind next) = refl
+after_by s at stay (Err n) = refl
+after_by s at stay (Ok body) = refl
 
-module _ (s : List ℕ) (at next : ℕ) (f : Frame) (h : at < length s) (g : f ≡ frame_at s at) (e : next ≡ after_frame f (length s)) where
+module _ (s : List ℕ) (at next : ℕ) (f : Framing) (h : at < length s) (g : f ≡ frame_at s at) (e : next ≡ after_frame f (length s)) where
   pub frame_falls : length s - next < length s - at
-  frame_falls = loop_falls s at next (read_by s at f) h (read_as s at f (read_by s at f) h g refl) (e ∙ after_by s at (length s) f)
+  frame_falls = loop_falls s at next (Some (read_by s at f)) h (read_as s at f (Some (read_by s at f)) h g refl) (e ∙ after_by s at (length s) f)
 
   pub listed_by : (shown : Bool) (out₀ out out' : List ℕ) (to₀ to to' n slot index : ℕ) (named named' b names : Bool) (row : List Call) (held : ℕ) (call : Call) (o : Outcome)
       → Found s shown out₀ to₀ out to at n named index row held call
-      → slot ≡ slot_framed f → index ≡ index_of slot → b ≡ ltb index 64 → o ≡ answer_of (read_by s at f) b call
+      → slot ≡ slot_framed f → index ≡ index_of slot → b ≡ ltb index 64 → o ≡ answer_of (Some (read_by s at f)) b call
       → names ≡ names_framed f → named' ≡ (named || names)
       → Put out to (record_text (n + 1) shown slot o) out' to' → to' ≤ to + longest_record
       → Listed s shown out₀ to₀ out' to' next (n + 1) named' row held o.call
   listed_by shown out₀ out out' to₀ to to' n slot index named named' b names row held call o i u v t d w x p m =
-      listed_on s shown out₀ out out' to₀ to to' at next n slot index named named' b names row held call (read_by s at f) o i h
-      (read_as s at f (read_by s at f) h g refl) (u ∙ slot_by s at f) v t d (w ∙ names_by s at f) x p m (e ∙ after_by s at (length s) f)
+      listed_on s shown out₀ out out' to₀ to to' at next n slot index named named' b names row held call (Some (read_by s at f)) o i h
+      (read_as s at f (Some (read_by s at f)) h g refl) (u ∙ slot_by s at f) v t d (w ∙ names_by s at f) x p m (e ∙ after_by s at (length s) f)
 
 pub listed_done : (s old out₀ out out' : List ℕ) (shown : Bool) (to₀ to at n r : ℕ) (named : Bool) (row : List Call) (held : ℕ) (call : Call) → Listed s shown out₀ to₀ out to at n named row held call
     → length s ≤ at → Put old 0 (ascii "REV 1\n") out₀ to₀ → Put out to (numbered_line (ascii "END ") n) out' r → Put old 0 (listing_by shown s) out' r
@@ -237,7 +239,7 @@ Dumped s out₀ to₀ out to at n = So s out₀ to₀ (places_text s 0 (places_o
 pub dumped_start : (s out₀ : List ℕ) (to₀ : ℕ) → Dumped s out₀ to₀ out₀ to₀ 0 0
 dumped_start s out₀ to₀ = so_start s out₀ to₀ longest_place (places_text s 0)
 
-pub dumped_on : (s out₀ out out' : List ℕ) (to₀ to to' at next n : ℕ) (f : Read) → Dumped s out₀ to₀ out to at n → at < length s
+pub dumped_on : (s out₀ out out' : List ℕ) (to₀ to to' at next n : ℕ) (f : Reading) → Dumped s out₀ to₀ out to at n → at < length s
     → f ≡ read_at s at → Put out to (place_text (n + 1) f at) out' to' → to' ≤ to + longest_place → next ≡ place_after f (length s)
     → Dumped s out₀ to₀ out' to' next (n + 1)
 unfolding places_text
@@ -262,7 +264,7 @@ pub counted_start : (s : List ℕ) → Counted s 0 0
 unfolding places_of
 counted_start s = record { turns = length s; left = omega arith; stands = first s }
 
-pub counted_on : (s : List ℕ) (at next n : ℕ) (f : Read) → Counted s at n → at < length s → f ≡ read_at s at → next ≡ place_after f (length s) → Counted s next (n + 1)
+pub counted_on : (s : List ℕ) (at next n : ℕ) (f : Reading) → Counted s at n → at < length s → f ≡ read_at s at → next ≡ place_after f (length s) → Counted s next (n + 1)
 counted_on s at next n f i h g e = go i.turns refl
   where
     go : (k : ℕ) → i.turns ≡ k → Counted s next (n + 1)

@@ -22,8 +22,11 @@ use Rattle.files.specs.Places.{place_after, places_from, places_of}
 use Rattle.files.specs.Words.{code_word, digits_word, value_text, counted_word, number_word, role_word, comma_text, flag_text, flags_text}
 use Rattle.files.specs.Words.{flags_word, opening_words, asked_word, ask_words, name_word, operation_word, with_operation_word, unless_zero}
 use Rattle.files.specs.Words.{reject_words, unknown_words, with_number, values_words, message_words, told_word, access_words, entry_words}
-use Rattle.files.specs.declared.Read.{Read}
+use Rattle.files.specs.Bodies.{Reading, got, stopped}
 use Rattle.files.specs.declared.Where.TheVariants.{Plain}
+use Rattle.std.specs.Prelude.{Option, None, Some, Ok, Err}
+use Rattle.files.specs.declared.Unreadable.{Unreadable}
+use Rattle.files.specs.declared.Unreadable.TheVariants.{CutShort, BadLength, UnknownKind}
 
 -- 01, case L
 case_l : List ℕ
@@ -62,13 +65,13 @@ case_board =
 -- part 128 does not change it; an unknown kind gives 7, "5 if bytes lack" before that, "6 for the kind" after; "digits (as many as the
 -- count)"; "a lone byte gives 5"; "Empty input gives `REV 1` and `END 0`"; case L
 worked :
-    (read_at (6 ∷ 0 ∷ 6 ∷ 0 ∷ 60 ∷ 0 ∷ 0 ∷ 0 ∷ []) 0 ≡ Read.Got Plain (Time 60) 8)
-    × (read_at (6 ∷ 0 ∷ 3 ∷ 0 ∷ 5 ∷ 0 ∷ 0 ∷ 0 ∷ []) 0 ≡ Read.Stop 6)
+    (read_at (6 ∷ 0 ∷ 6 ∷ 0 ∷ 60 ∷ 0 ∷ 0 ∷ 0 ∷ []) 0 ≡ got Plain (Time 60) 8)
+    × (read_at (6 ∷ 0 ∷ 3 ∷ 0 ∷ 5 ∷ 0 ∷ 0 ∷ 0 ∷ []) 0 ≡ stopped BadLength)
     × (read_at (7 ∷ 0 ∷ 3 ∷ 0 ∷ 5 ∷ 0 ∷ 0 ∷ 0 ∷ 128 ∷ []) 0
-    ≡ Read.Got Plain (Received (record { kind = 5; cause = 0; component = Absent 0; parts = 128; calling = absent; called = absent; duration = 0 })) 9)
-    × (read_at (2 ∷ 0 ∷ 8 ∷ 0 ∷ []) 0 ≡ Read.Stop 7)
-    × (read_at (3 ∷ 0 ∷ 8 ∷ 0 ∷ []) 0 ≡ Read.Stop 5)
-    × (read_at (3 ∷ 0 ∷ 5 ∷ 0 ∷ 0 ∷ []) 0 ≡ Read.Stop 6)
+    ≡ got Plain (Received (record { kind = 5; cause = 0; component = Absent 0; parts = 128; calling = absent; called = absent; duration = 0 })) 9)
+    × (read_at (2 ∷ 0 ∷ 8 ∷ 0 ∷ []) 0 ≡ stopped UnknownKind)
+    × (read_at (3 ∷ 0 ∷ 8 ∷ 0 ∷ []) 0 ≡ stopped CutShort)
+    × (read_at (3 ∷ 0 ∷ 5 ∷ 0 ∷ 0 ∷ []) 0 ≡ stopped BadLength)
     × (with_digits (ascii " CALLED ") (record { nature = National; count = 8; value = 5550123 }) ≡ ascii " CALLED 05550123")
     × (with_digits (ascii " CALLED ") (record { nature = International; count = 8; value = 5550123 }) ≡ ascii " CALLED +05550123")
     × (listing_of case_abroad

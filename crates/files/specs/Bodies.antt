@@ -1,7 +1,7 @@
 -- A record and its event, both ways: the event that its body says, and the bytes that an event is. Reader and writer use the same table of
 -- fields (Fields.antt). No field is judged here: 3 is the call's answer, and the writer's (Write.antt).
 -- Assumes nothing.
-use Rattle.std.specs.Prelude.{ℕ, ◌+◌, ◌%◌, List, [], ◌∷◌, ◌++◌, length, slice_index}
+use Rattle.std.specs.Prelude.{ℕ, ◌+◌, ◌%◌, List, [], ◌∷◌, ◌++◌, length, slice_index, Option, None, Some, Result as OkOrErr, Ok, Err}
 use Rattle.text.specs.Choose.{if_lt, if_le, if_eq}
 use Rattle.rows.specs.declared.Component.{Component}
 use Rattle.rows.specs.declared.Component.TheVariants.{Absent, Invoke, Result, Error, Reject, Unknown}
@@ -14,9 +14,9 @@ use Rattle.rows.specs.declared.Number.{Number}
 use Rattle.files.specs.Bytes.{byte_at, le_of}
 use Rattle.files.specs.Fields.{number_fields, opening_fields, ask_fields, message_fields, access_fields, expiry_fields, time_fields}
 use Rattle.files.specs.Fields.{values_at, bytes_of}
-use Rattle.files.specs.Frames.{length_with, slotted_kind, plain_frame, frame_at}
-use Rattle.files.specs.declared.Frame.{Frame}
-use Rattle.files.specs.declared.Read.{Read}
+use Rattle.files.specs.Frames.{length_with, slotted_kind, Framing, plain_frame, frame_at}
+use Rattle.files.specs.declared.Record.{Record}
+use Rattle.files.specs.declared.Unreadable.{Unreadable}
 use Rattle.files.specs.declared.Where.{Where}
 use Rattle.files.specs.declared.Where.TheVariants.{Plain, Slot}
 
@@ -117,18 +117,28 @@ abbrev pub body_at : Where → ℕ → ℕ
 body_at Plain at = at + 4
 body_at (Slot i) at = at + 10
 
--- where a record acts, its event, and the place after it; 01: "reading stops here"
-abbrev pub read_by : List ℕ → ℕ → Frame → Read
-read_by s at (Frame.Stop n) = Read.Stop n
-read_by s at (Frame.Body w kind next) = Read.Got w (event_at s (body_at w at) kind) next
+-- what stands at a place: nothing; a record, that is where it acts, its event and the place after it; or why it cannot be read
+abbrev pub Reading : Type 0
+Reading = Option (OkOrErr Record Unreadable)
+
+abbrev pub got : Where → Event → ℕ → Reading
+got w e next = Some (Ok (record { acts = w; event = e; next = next }))
+
+abbrev pub stopped : Unreadable → Reading
+stopped e = Some (Err e)
+
+-- a record by its frame; 01: "reading stops here"
+abbrev pub read_by : List ℕ → ℕ → Framing → OkOrErr Record Unreadable
+read_by s at (Err e) = Err e
+read_by s at (Ok f) = Ok (record { acts = f.acts; event = event_at s (body_at f.acts at) f.kind; next = f.next })
 
 -- what stands at a place of a file
-unfoldable pub read_at : List ℕ → ℕ → Read
-read_at s at = if_le (length s) at Read.End (read_by s at (frame_at s at))
+unfoldable pub read_at : List ℕ → ℕ → Reading
+read_at s at = if_le (length s) at None (Some (read_by s at (frame_at s at)))
 
 -- the same where plain records alone may stand
-unfoldable pub plain_at : List ℕ → ℕ → Read
-plain_at s at = if_le (length s) at Read.End (read_by s at (plain_frame s at))
+unfoldable pub plain_at : List ℕ → ℕ → Reading
+plain_at s at = if_le (length s) at None (Some (read_by s at (plain_frame s at)))
 
 -- ---- from events to bytes
 

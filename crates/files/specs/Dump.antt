@@ -1,27 +1,28 @@
 -- A dump of a file: each record's ordinal, its place, and what it says.
 -- Assumes nothing.
-use Rattle.std.specs.Prelude.{ℕ, ◌+◌, List, [], ◌∷◌, ◌++◌, length}
-use Rattle.text.specs.Choose.{if_eq}
+use Rattle.std.specs.Prelude.{ℕ, ◌+◌, List, [], ◌∷◌, ◌++◌, length, None, Some, Ok, Err}
 use Rattle.text.specs.Text.{ascii, decimal, numbered}
-use Rattle.files.specs.Bodies.{read_at}
-use Rattle.files.specs.Frames.{cut_short, bad_length}
+use Rattle.files.specs.Bodies.{Reading, read_at}
 use Rattle.files.specs.Lines.{numbered_line}
 use Rattle.files.specs.Places.{places_of}
 use Rattle.files.specs.Words.{entry_words}
-use Rattle.files.specs.declared.Read.{Read}
+use Rattle.files.specs.declared.Unreadable.{Unreadable}
+use Rattle.files.specs.declared.Unreadable.TheVariants.{CutShort, BadLength, UnknownKind}
 
--- why a record cannot be read: 5, 6 or else 7
-unfoldable pub stop_text : ℕ → List ℕ
-stop_text n = if_eq n cut_short (ascii " CUT-SHORT") (if_eq n bad_length (ascii " BAD-LENGTH") (ascii " UNKNOWN-KIND"))
+-- why a record cannot be read
+abbrev pub stop_text : Unreadable → List ℕ
+stop_text CutShort = ascii " CUT-SHORT"
+stop_text BadLength = ascii " BAD-LENGTH"
+stop_text UnknownKind = ascii " UNKNOWN-KIND"
 
 -- what a record says
-abbrev pub found_text : Read → List ℕ
-found_text Read.End = []
-found_text (Read.Stop n) = stop_text n
-found_text (Read.Got w e next) = entry_words w e
+abbrev pub found_text : Reading → List ℕ
+found_text None = []
+found_text (Some (Err e)) = stop_text e
+found_text (Some (Ok r)) = entry_words r.acts r.event
 
 -- a record's line: ordinal, place, what it says
-unfoldable pub place_text : ℕ → Read → ℕ → List ℕ
+unfoldable pub place_text : ℕ → Reading → ℕ → List ℕ
 place_text ordinal found at = decimal ordinal ++ numbered (ascii " ") at ++ found_text found ++ ascii "\n"
 
 -- the records at these places, n before them

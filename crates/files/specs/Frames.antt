@@ -2,12 +2,14 @@
 -- follow) and a kind, 2 bytes little-endian each, and a body." 02 #107: "Event files get kind 7: two bytes of slot, then a whole inner
 -- record of kind 1 to 6". A record of one of these six, in a file or inside one of kind 7, is a plain one.
 -- Assumes nothing.
-use Rattle.std.specs.Prelude.{ℕ, ◌+◌, List, length}
+use Rattle.std.specs.Prelude.{ℕ, ◌+◌, List, length, Result, Ok, Err}
 use Rattle.text.specs.Choose.{if_lt, if_eq}
 use Rattle.files.specs.Bytes.{byte_at, le_at}
 use Rattle.files.specs.Fields.{opening_fields, ask_fields, message_fields, access_fields, expiry_fields, time_fields, size_of}
 use Rattle.files.specs.declared.Frame.{Frame}
-use Rattle.files.specs.declared.Frame.TheVariants.{Stop, Body}
+use Rattle.files.specs.declared.Unreadable.{Unreadable}
+use Rattle.files.specs.declared.Unreadable.TheVariants.{CutShort, BadLength, UnknownKind}
+use Rattle.files.specs.declared.Where.{Where}
 use Rattle.files.specs.declared.Where.TheVariants.{Plain, Slot}
 
 -- 01, "Numbers given back"
@@ -19,6 +21,18 @@ bad_length = 6
 
 abbrev pub unknown_kind : ℕ
 unknown_kind = 7
+
+abbrev pub stop_number : Unreadable → ℕ
+stop_number CutShort = cut_short
+stop_number BadLength = bad_length
+stop_number UnknownKind = unknown_kind
+
+-- what a frame is answered as: where the record acts, the kind of its event and the place after it; or why reading stops
+abbrev pub Framing : Type 0
+Framing = Result Frame Unreadable
+
+abbrev pub framed : Where → ℕ → ℕ → Framing
+framed w kind next = Ok (record { acts = w; kind = kind; next = next })
 
 -- the length of a record with these fields: 2 bytes of kind, and its body
 abbrev pub length_with : List ℕ → ℕ
@@ -38,17 +52,17 @@ length_of kind parts =
 
 -- the record at `at` of a file of n bytes, by its length and kind and the length that its kind has; 01: "Order: 5 if two
 -- length bytes aren't there; 6 for the range; 5 if bytes lack; 7; 6 for the kind"
-unfoldable pub plain_of : ℕ → ℕ → ℕ → ℕ → ℕ → Frame
+unfoldable pub plain_of : ℕ → ℕ → ℕ → ℕ → ℕ → Framing
 plain_of n at len kind want =
-    if_lt n (at + 2) (Stop cut_short)
-    (if_lt len 2 (Stop bad_length)
-    (if_lt 29 len (Stop bad_length)
-    (if_lt n (at + 2 + len) (Stop cut_short)
-    (if_eq want 0 (Stop unknown_kind)
-    (if_eq len want (Body Plain kind (at + 2 + len)) (Stop bad_length))))))
+    if_lt n (at + 2) (Err CutShort)
+    (if_lt len 2 (Err BadLength)
+    (if_lt 29 len (Err BadLength)
+    (if_lt n (at + 2 + len) (Err CutShort)
+    (if_eq want 0 (Err UnknownKind)
+    (if_eq len want (framed Plain kind (at + 2 + len)) (Err BadLength))))))
 
 -- the record at `at`: its length, its kind, and the byte where a message has its parts
-unfoldable pub plain_frame : List ℕ → ℕ → Frame
+unfoldable pub plain_frame : List ℕ → ℕ → Framing
 plain_frame s at = plain_of (length s) at (le_at 2 s at) (le_at 2 s (at + 2)) (length_of (le_at 2 s (at + 2)) (byte_at s (at + 8)))
 
 -- ---- A record of kind 7, and any record
@@ -61,36 +75,40 @@ abbrev pub longest_slotted : ℕ
 longest_slotted = 35
 
 -- where the file ends before two bytes of kind: 30 to 35 "with the kind cut off 5", and a shorter one lacks bytes too
-unfoldable pub kindless_of : ℕ → ℕ → ℕ → ℕ
+unfoldable pub kindless_of : ℕ → ℕ → ℕ → Unreadable
 kindless_of n at len =
-    if_lt n (at + 2) cut_short
-    (if_lt len 2 bad_length
-    (if_lt longest_slotted len bad_length cut_short))
+    if_lt n (at + 2) CutShort
+    (if_lt len 2 BadLength
+    (if_lt longest_slotted len BadLength CutShort))
 
--- one of kind 7 up to the record inside it, of which `inner` is the length; 0 where nothing stops the reading. The order is 01's; "6 if
--- the inner length doesn't fill it", which is its own less the 6 bytes of kind, slot and inner length
-unfoldable pub outer_of : ℕ → ℕ → ℕ → ℕ → ℕ
+-- one of kind 7 up to the record inside it, of which `inner` is the length: why the reading stops, or nothing where nothing stops it. The
+-- order is 01's; "6 if the inner length doesn't fill it", which is its own less the 6 bytes of kind, slot and inner length
+unfoldable pub outer_of : ℕ → ℕ → ℕ → ℕ → Result (Unit {0}) Unreadable
 outer_of n at len inner =
-    if_lt len 2 bad_length
-    (if_lt longest_slotted len bad_length
-    (if_lt n (at + 2 + len) cut_short
-    (if_lt len 8 bad_length
-    (if_eq (inner + 6) len 0 bad_length))))
+    if_lt len 2 (Err BadLength)
+    (if_lt longest_slotted len (Err BadLength)
+    (if_lt n (at + 2 + len) (Err CutShort)
+    (if_lt len 8 (Err BadLength)
+    (if_eq (inner + 6) len (Ok tt) (Err BadLength)))))
 
 -- what is inside acts at the slot
-abbrev pub in_slot : ℕ → Frame → Frame
-in_slot i (Stop n) = Stop n
-in_slot i (Body w kind next) = Body (Slot i) kind next
+abbrev pub in_slot : ℕ → Framing → Framing
+in_slot i (Err e) = Err e
+in_slot i (Ok f) = framed (Slot i) f.kind f.next
+
+-- what stands inside is looked at where nothing stopped the reading before it
+abbrev pub unless_stopped : Result (Unit {0}) Unreadable → Framing → Framing
+unless_stopped (Err e) inside = Err e
+unless_stopped (Ok u) inside = inside
 
 -- then "7, then 6 for the kind": what stands inside is framed as any plain record
-unfoldable pub slotted_frame : List ℕ → ℕ → Frame
+unfoldable pub slotted_frame : List ℕ → ℕ → Framing
 slotted_frame s at =
-    if_eq (outer_of (length s) at (le_at 2 s at) (le_at 2 s (at + 6))) 0
+    unless_stopped (outer_of (length s) at (le_at 2 s at) (le_at 2 s (at + 6)))
     (in_slot (le_at 2 s (at + 4)) (plain_frame s (at + 6)))
-    (Stop (outer_of (length s) at (le_at 2 s at) (le_at 2 s (at + 6))))
 
 -- the record at `at`, of any kind: "30 to 35 with another kind stays 6"
-unfoldable pub frame_at : List ℕ → ℕ → Frame
+unfoldable pub frame_at : List ℕ → ℕ → Framing
 frame_at s at =
-    if_lt (length s) (at + 4) (Stop (kindless_of (length s) at (le_at 2 s at)))
+    if_lt (length s) (at + 4) (Err (kindless_of (length s) at (le_at 2 s at)))
     (if_eq (le_at 2 s (at + 2)) slotted_kind (slotted_frame s at) (plain_frame s at))

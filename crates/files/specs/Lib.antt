@@ -4,7 +4,6 @@ pub mod Dump
 pub mod Fields
 pub mod Fit
 pub mod Frames
-pub mod Lent
 pub mod Lines
 pub mod Listing
 pub mod Messages

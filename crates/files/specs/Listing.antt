@@ -1,6 +1,6 @@
 -- The listing of a file: a list of bytes computed from the file's bytes.
 -- Assumes nothing.
-use Rattle.std.specs.Prelude.{ℕ, ◌+◌, Bool, true, false, ◌||◌, List, [], ◌∷◌, ◌++◌, slice_index_or}
+use Rattle.std.specs.Prelude.{ℕ, ◌+◌, Bool, true, false, ◌||◌, List, [], ◌∷◌, ◌++◌, slice_index_or, None, Some, Ok, Err}
 use Rattle.text.specs.Choose.{if_lt}
 use Rattle.text.specs.Text.{ascii}
 use Rattle.board.specs.Numbers.{no_such_slot, slots}
@@ -9,11 +9,10 @@ use Rattle.rows.specs.Perform.{refused_of}
 use Rattle.rows.specs.Step.{step_of, unopened_call}
 use Rattle.rows.specs.declared.Call.{Call}
 use Rattle.rows.specs.declared.Outcome.{Outcome}
-use Rattle.files.specs.Bodies.{read_at}
+use Rattle.files.specs.Bodies.{Reading, read_at}
+use Rattle.files.specs.Frames.{stop_number, Framing}
 use Rattle.files.specs.Lines.{numbered_line, record_text}
 use Rattle.files.specs.Places.{places_of}
-use Rattle.files.specs.declared.Frame.{Frame}
-use Rattle.files.specs.declared.Read.{Read}
 use Rattle.files.specs.declared.Where.{Where}
 use Rattle.files.specs.declared.Where.TheVariants.{Plain, Slot}
 
@@ -23,53 +22,53 @@ abbrev pub slot_of : Where → ℕ
 slot_of Plain = 0
 slot_of (Slot i) = i
 
-abbrev pub slot_found : Read → ℕ
-slot_found Read.End = 0
-slot_found (Read.Stop n) = 0
-slot_found (Read.Got w e next) = slot_of w
+abbrev pub slot_found : Reading → ℕ
+slot_found None = 0
+slot_found (Some (Err e)) = 0
+slot_found (Some (Ok r)) = slot_of r.acts
 
 -- whether it is a record of kind 7
 abbrev pub is_slot : Where → Bool
 is_slot Plain = false
 is_slot (Slot i) = true
 
-abbrev pub names_slot : Read → Bool
-names_slot Read.End = false
-names_slot (Read.Stop n) = false
-names_slot (Read.Got w e next) = is_slot w
+abbrev pub names_slot : Reading → Bool
+names_slot None = false
+names_slot (Some (Err e)) = false
+names_slot (Some (Ok r)) = is_slot r.acts
 
 -- the same of a frame, and the place after it: what a listing goes by, so that an event is read where it is answered
-abbrev pub slot_framed : Frame → ℕ
-slot_framed (Frame.Stop n) = 0
-slot_framed (Frame.Body w kind next) = slot_of w
+abbrev pub slot_framed : Framing → ℕ
+slot_framed (Err e) = 0
+slot_framed (Ok f) = slot_of f.acts
 
-abbrev pub names_framed : Frame → Bool
-names_framed (Frame.Stop n) = false
-names_framed (Frame.Body w kind next) = is_slot w
+abbrev pub names_framed : Framing → Bool
+names_framed (Err e) = false
+names_framed (Ok f) = is_slot f.acts
 
-abbrev pub after_frame : Frame → ℕ → ℕ
-after_frame (Frame.Stop n) stay = stay
-after_frame (Frame.Body w kind next) stay = next
+abbrev pub after_frame : Framing → ℕ → ℕ
+after_frame (Err e) stay = stay
+after_frame (Ok f) stay = f.next
 
 -- ---- The answer to what stands at a place of a file
 
 -- by a slot that is there, or is not, and its call; where nothing stands there is nothing to answer, and no listing asks for it
-abbrev pub answer_of : Read → Bool → Call → Outcome
-answer_of Read.End there c = refused_of 0 c
-answer_of (Read.Stop n) there c = refused_of n c
-answer_of (Read.Got w e next) true c = step_of c e
-answer_of (Read.Got w e next) false c = refused_of no_such_slot c
+abbrev pub answer_of : Reading → Bool → Call → Outcome
+answer_of None there c = refused_of 0 c
+answer_of (Some (Err e)) there c = refused_of (stop_number e) c
+answer_of (Some (Ok r)) true c = step_of c r.event
+answer_of (Some (Ok r)) false c = refused_of no_such_slot c
 
 -- by the row (crates/board/specs/Row.antt), and the row after it
-abbrev pub answer_by : Read → List Call → Outcome
-answer_by Read.End row = refused_of 0 (slice_index_or row 0 unopened_call)
-answer_by (Read.Stop n) row = refused_of n (slice_index_or row 0 unopened_call)
-answer_by (Read.Got w e next) row = answer_at row (slot_of w) e
+abbrev pub answer_by : Reading → List Call → Outcome
+answer_by None row = refused_of 0 (slice_index_or row 0 unopened_call)
+answer_by (Some (Err e)) row = refused_of (stop_number e) (slice_index_or row 0 unopened_call)
+answer_by (Some (Ok r)) row = answer_at row (slot_of r.acts) r.event
 
-abbrev pub row_by : Read → List Call → List Call
-row_by Read.End row = row
-row_by (Read.Stop n) row = row
-row_by (Read.Got w e next) row = row_after row (slot_of w) e
+abbrev pub row_by : Reading → List Call → List Call
+row_by None row = row
+row_by (Some (Err e)) row = row
+row_by (Some (Ok r)) row = row_after row (slot_of r.acts) r.event
 
 -- a slot's place in the row of a listing, where a call that is never opened stands past the last slot
 unfoldable pub index_of : ℕ → ℕ

@@ -1,15 +1,14 @@
 -- Where the records of a file stand.
 -- Assumes nothing.
-use Rattle.std.specs.Prelude.{ℕ, zero, suc, List, [], ◌∷◌, length}
+use Rattle.std.specs.Prelude.{ℕ, zero, suc, List, [], ◌∷◌, length, None, Some, Ok, Err}
 use Rattle.text.specs.Choose.{if_lt}
-use Rattle.files.specs.Bodies.{read_at}
-use Rattle.files.specs.declared.Read.{Read}
+use Rattle.files.specs.Bodies.{Reading, read_at}
 
 -- the place after what was found; where there is no record, or none that can be read, `stay`
-unfoldable pub place_after : Read → ℕ → ℕ
-place_after Read.End stay = stay
-place_after (Read.Stop n) stay = stay
-place_after (Read.Got w e next) stay = next
+unfoldable pub place_after : Reading → ℕ → ℕ
+place_after None stay = stay
+place_after (Some (Err e)) stay = stay
+place_after (Some (Ok r)) stay = r.next
 
 -- The places of the records from a place on, k at most. 01: "After 5, 6 or 7 that record's line is shown, then END": a record that
 -- cannot be read is the last.

@@ -1,7 +1,7 @@
 -- What a file holds, and what its listing shows of it: said by the entries alone, with the row that they reach. proofs/Billed.antt proves
 -- that the listing is the text of this, and that the meters on a slot's line are the bill of that slot's own events.
 -- Assumes nothing.
-use Rattle.std.specs.Prelude.{◌≡◌, ℕ, zero, suc, ◌+◌, ◌≤◌, Bool, false, ◌&&◌, ◌||◌, List, [], ◌∷◌, ◌++◌, length, take, nat_le, slice_index_or}
+use Rattle.std.specs.Prelude.{◌≡◌, ℕ, zero, suc, ◌+◌, ◌≤◌, Bool, false, ◌&&◌, ◌||◌, List, [], ◌∷◌, ◌++◌, length, take, nat_le, slice_index_or, None, Some, Ok, Err}
 use Rattle.std.proofs.Math.Option.{some}
 use Rattle.std.proofs.Math.ListN.{get_elem?}
 use Rattle.meters.specs.declared.Payer.TheVariants.{Caller, Called, Far}
@@ -15,11 +15,11 @@ use Rattle.rows.specs.declared.Call.{Call}
 use Rattle.rows.specs.declared.Event.{Event}
 use Rattle.rows.specs.declared.Outcome.{Outcome}
 use Rattle.board.specs.Row.{Named, answer_at, run_row, own_of, empty_row}
-use Rattle.files.specs.Bodies.{read_at}
+use Rattle.files.specs.Bodies.{Reading, read_at}
+use Rattle.files.specs.Frames.{stop_number}
 use Rattle.files.specs.Lines.{slot_text, stand_text, actions_text, numbered_line, record_text}
 use Rattle.files.specs.Listing.{slot_of}
 use Rattle.files.specs.Typed.{Entry}
-use Rattle.files.specs.declared.Read.{Read}
 
 -- ---- What a file holds: entries, and how it ends
 
@@ -33,10 +33,14 @@ pub record Contents : Type 0 where
   pub ending : Ending
 
 -- what was found at a place, and then what the file holds from the next place on
-abbrev pub and_then : Read → (ℕ → Contents) → Contents
-and_then Read.End rest = record { entries = []; ending = whole }
-and_then (Read.Stop n) rest = record { entries = []; ending = unread n }
-and_then (Read.Got w e next) rest = record { entries = record { acts = w; event = e } ∷ (rest next).entries; ending = (rest next).ending }
+abbrev pub and_then : Reading → (ℕ → Contents) → Contents
+and_then None rest = record { entries = []; ending = whole }
+and_then (Some (Err e)) rest = record { entries = []; ending = unread (stop_number e) }
+and_then (Some (Ok r)) rest =
+    record {
+      entries = record { acts = r.acts; event = r.event } ∷ (rest r.next).entries;
+      ending = (rest r.next).ending;
+    }
 
 -- from a place on, k records at most
 unfoldable pub contents_from : ℕ → List ℕ → ℕ → Contents

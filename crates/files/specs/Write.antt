@@ -2,7 +2,7 @@
 -- buffer unchanged, and so is a record longer than the room in it. Refusals: 3, then 8." 02 #106: "Where 3 is told, give the field's ordinal
 -- in the body as well, first bad field first".
 -- Assumes nothing.
-use Rattle.std.specs.Prelude.{ℕ, ◌+◌, ◌*◌, Bool, true, false, List, ◌++◌, length, drop, Result, Ok, Err}
+use Rattle.std.specs.Prelude.{ℕ, ◌+◌, ◌*◌, Bool, true, false, List, ◌++◌, length, drop, None, Some, Result, Ok, Err}
 use Rattle.text.specs.Choose.{if_lt, if_so}
 use Rattle.rows.specs.Valid.{event_ok, bad_field_of}
 use Rattle.rows.specs.declared.Event.{Event}
@@ -10,9 +10,8 @@ use Rattle.rows.specs.declared.Event.TheVariants.{Received}
 use Rattle.rows.specs.declared.Nature.{Nature}
 use Rattle.rows.specs.declared.Nature.TheVariants.{National, International}
 use Rattle.rows.specs.declared.Number.{Number}
-use Rattle.files.specs.Bodies.{component_of, record_of, slotted_of}
-use Rattle.files.specs.Frames.{cut_short}
-use Rattle.files.specs.declared.Read.{Read}
+use Rattle.files.specs.Bodies.{component_of, Reading, record_of, slotted_of}
+use Rattle.files.specs.Frames.{cut_short, stop_number}
 use Rattle.files.specs.declared.Unwritten.{Unwritten}
 use Rattle.files.specs.declared.Unwritten.TheVariants.{BadField, NoRoom}
 
@@ -61,15 +60,15 @@ gives_back answer = number_of answer + 256 * field_of answer
 -- ---- a host in C hands over a plain record, to stand inside one of kind 7: why it cannot be read, or what is answered to its event; an
 -- empty one lacks its length
 
-abbrev pub slot_gives : Read → ℕ → List ℕ → ℕ
-slot_gives Read.End i out = cut_short
-slot_gives (Read.Stop n) i out = n
-slot_gives (Read.Got w e next) i out = gives_back (written_at i e out)
+abbrev pub slot_gives : Reading → ℕ → List ℕ → ℕ
+slot_gives None i out = cut_short
+slot_gives (Some (Err e)) i out = stop_number e
+slot_gives (Some (Ok r)) i out = gives_back (written_at i r.event out)
 
-abbrev pub slot_leaves : Read → ℕ → List ℕ → List ℕ
-slot_leaves Read.End i out = out
-slot_leaves (Read.Stop n) i out = out
-slot_leaves (Read.Got w e next) i out = left_at i e out
+abbrev pub slot_leaves : Reading → ℕ → List ℕ → List ℕ
+slot_leaves None i out = out
+slot_leaves (Some (Err e)) i out = out
+slot_leaves (Some (Ok r)) i out = left_at i r.event out
 
 -- ---- a host in C passes numbers
 

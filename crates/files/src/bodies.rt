@@ -6,19 +6,22 @@ ghost use Rattle.files.specs.Bytes.{le_at};
 
 use crate::bytes::{byte, le4, le8};
 use crate::frames::{frame, plain_frame};
-use crate::{Frame, Read, Where};
+use crate::{Frame, Record, Unreadable, Where};
 use rows::{ABSENT, Component, Event, Message, Nature, Number};
 
 // The count byte's two halves. Its top bit is read here alone, and written in write.rt alone.
+#[tactic(auto, using(text::proofs::Cases::cases), unfolding(crate::specs::Bodies::nature_of))]
 pub fn nature_of(byte: u8) -> Nature
     ensures { result ≡ nature_of byte }
 {
     if byte < 128 {
-        return Nature::National;
+        Nature::National
+    } else {
+        Nature::International
     }
-    Nature::International
 }
 
+#[tactic(auto, unfolding(crate::specs::Bodies::count_of))]
 pub fn count_of(byte: u8) -> u8
     ensures { result ≡ count_of byte }
 {
@@ -26,83 +29,72 @@ pub fn count_of(byte: u8) -> u8
 }
 
 // A number: its count byte, and 8 bytes of value.
+#[tactic(auto, using(crate::proofs::Records::number_as))]
 fn number_at(s: &[u8], i: usize) -> Number
     requires { i + 8 < 2 ^ 64 }
     ensures { result ≡ number_if s.now i 1 }
 {
     let counted = byte(s, i);
-    let nature = nature_of(counted);
-    let count = count_of(counted);
-    let value = le8(s, i + 1);
     Number {
-        nature,
-        count,
-        value,
+        nature: nature_of(counted),
+        count: count_of(counted),
+        value: le8(s, i + 1),
     }
 }
 
+#[tactic(auto, using(crate::proofs::Records::opening_as))]
 fn opening_at(s: &[u8], b: usize) -> Event
     requires { b + 64 < 2 ^ 64 }
     ensures { result ≡ opening_at s.now b }
 {
-    let role = byte(s, b);
-    let flags = byte(s, b + 1);
-    let own = number_at(s, b + 2);
-    Event::Opening(role, flags, own)
+    Event::Opening(byte(s, b), byte(s, b + 1), number_at(s, b + 2))
 }
 
+#[tactic(auto, using(crate::proofs::Records::ask_as))]
 fn ask_at(s: &[u8], b: usize) -> Event
     requires { b + 64 < 2 ^ 64 }
     ensures { result ≡ ask_at s.now b }
 {
-    let item = byte(s, b);
-    let called = number_at(s, b + 1);
-    Event::Ask(item, called)
+    Event::Ask(byte(s, b), number_at(s, b + 1))
 }
 
+#[tactic(auto, using(text::proofs::Cases::cases), unfolding(crate::specs::Bodies::component_of))]
 pub fn component_of(code: u8, n: u8) -> Component
     ensures { result ≡ component_of code n }
 {
-    if code == 0 {
-        return Component::Absent(n);
+    match code {
+        0 => Component::Absent(n),
+        1 => Component::Invoke(n),
+        2 => Component::Result(n),
+        3 => Component::Error(n),
+        4 => Component::Reject(n),
+        _ => Component::Unknown(code, n),
     }
-    if code == 1 {
-        return Component::Invoke(n);
-    }
-    if code == 2 {
-        return Component::Result(n);
-    }
-    if code == 3 {
-        return Component::Error(n);
-    }
-    if code == 4 {
-        return Component::Reject(n);
-    }
-    Component::Unknown(code, n)
 }
 
 // A number where its part is present, else absent.
+#[tactic(auto, using(crate::proofs::Records::number_there_lem, crate::proofs::Records::number_none))]
 fn number_if(s: &[u8], i: usize, present: u8) -> Number
     requires { (i + 8 < 2 ^ 64) × (present < 2) }
     ensures { result ≡ number_if s.now i present }
 {
     if present == 1 {
-        return number_at(s, i);
+        number_at(s, i)
+    } else {
+        ABSENT
     }
-    ABSENT
 }
 
+#[tactic(auto, using(crate::proofs::Records::duration_there, crate::proofs::Records::duration_none))]
 fn duration_if(s: &[u8], i: usize, present: u8) -> u32
     requires { (i + 3 < 2 ^ 64) × (present < 2) }
     ensures { result ≡ le_at (4 * present) s.now i }
 {
-    if present == 1 {
-        return le4(s, i);
-    }
-    0
+    if present == 1 { le4(s, i) } else { 0 }
 }
 
 // The numbers and the duration that are present follow one another.
+#[tactic(auto, using(crate::proofs::Records::message_as))]
 fn message_at(s: &[u8], b: usize) -> Message
     requires { b + 64 < 2 ^ 64 }
     ensures { result ≡ message_at s.now b }
@@ -130,89 +122,81 @@ fn message_at(s: &[u8], b: usize) -> Message
     }
 }
 
+#[tactic(auto, using(crate::proofs::Records::access_as))]
 fn access_at(s: &[u8], b: usize) -> Event
     requires { b + 64 < 2 ^ 64 }
     ensures { result ≡ access_at s.now b }
 {
-    let item = byte(s, b);
-    let error = byte(s, b + 1);
-    Event::FromAccess(item, error)
+    Event::FromAccess(byte(s, b), byte(s, b + 1))
 }
 
+#[tactic(auto, using(crate::proofs::Records::time_as))]
 fn time_at(s: &[u8], b: usize) -> Event
     requires { b + 64 < 2 ^ 64 }
     ensures { result ≡ time_at s.now b }
 {
-    let seconds = le4(s, b);
-    Event::Time(seconds)
+    Event::Time(le4(s, b))
 }
 
 // The event of a body. A frame lets no kind through but 1 to 6.
+#[tactic(auto, using(text::proofs::Cases::cases), unfolding(crate::specs::Bodies::event_at))]
 pub(crate) fn event_at(s: &[u8], b: usize, kind: u32) -> Event
     requires { b + 64 < 2 ^ 64 }
     ensures { result ≡ event_at s.now b kind }
 {
-    if kind == 1 {
-        return opening_at(s, b);
-    }
-    if kind == 2 {
-        return ask_at(s, b);
-    }
-    if kind == 3 {
-        return Event::Received(message_at(s, b));
-    }
-    if kind == 4 {
-        return access_at(s, b);
-    }
-    if kind == 5 {
-        return Event::Expiry;
-    }
-    time_at(s, b)
-}
-
-// Where the body of its event begins: after length and kind; inside one of kind 7 after these, the slot, and length and kind once more.
-pub(crate) fn body_at(w: Where, at: usize) -> usize
-    requires { at < 2 ^ 63 }
-    ensures { (result ≡ body_at w at) × (result ≤ at + 10) }
-{
-    match w {
-        Where::Plain => at + 4,
-        Where::Slot(_) => at + 10,
+    match kind {
+        1 => opening_at(s, b),
+        2 => ask_at(s, b),
+        3 => Event::Received(message_at(s, b)),
+        4 => access_at(s, b),
+        5 => Event::Expiry,
+        _ => time_at(s, b),
     }
 }
 
-// A record by its frame.
-fn read_by(s: &[u8], at: usize, f: Frame) -> Read
-    requires { at < 2 ^ 63 }
-    ensures { result ≡ read_by s.now at f }
-{
-    match f {
-        Frame::Stop(number) => Read::Stop(number),
-        Frame::Body(w, kind, next) => {
-            let b = body_at(w, at);
-            Read::Got(w, event_at(s, b, kind), next)
+impl Where {
+    // Where the body of its event begins: after length and kind; inside one of kind 7 after these, the slot, and length and kind once more.
+    pub(crate) fn body_at(self, at: usize) -> usize
+        requires { at < 2 ^ 63 }
+        ensures { (result ≡ body_at self at) × (result ≤ at + 10) }
+    {
+        match self {
+            Where::Plain => at + 4,
+            Where::Slot(_) => at + 10,
         }
     }
 }
 
+// A record by its frame.
+fn read_by(s: &[u8], at: usize, f: Result<Frame, Unreadable>) -> Result<Record, Unreadable>
+    requires { at < 2 ^ 63 }
+    ensures { result ≡ read_by s.now at f }
+{
+    let Frame { acts, kind, next } = f?;
+    let event = event_at(s, acts.body_at(at), kind);
+    Ok(Record { acts, event, next })
+}
+
 // What stands at a place of a file.
-pub fn read_at(s: &[u8], at: usize) -> Read
+#[tactic(auto, using(text::proofs::Cases::cases, crate::proofs::Records::read_as), unfolding(crate::specs::Bodies::read_at))]
+pub fn read_at(s: &[u8], at: usize) -> Option<Result<Record, Unreadable>>
     ensures { result ≡ read_at s.now at }
 {
     if s.len() <= at {
-        return Read::End;
+        None
+    } else {
+        Some(read_by(s, at, frame(s, at)))
     }
-    let f = frame(s, at);
-    read_by(s, at, f)
 }
 
 // The same where plain records alone may stand.
-pub fn plain_at(s: &[u8], at: usize) -> Read
+#[tactic(auto, using(text::proofs::Cases::cases, crate::proofs::Records::plain_read_as), unfolding(crate::specs::Bodies::plain_at))]
+pub fn plain_at(s: &[u8], at: usize) -> Option<Result<Record, Unreadable>>
     ensures { result ≡ plain_at s.now at }
 {
     if s.len() <= at {
-        return Read::End;
+        None
+    } else {
+        Some(read_by(s, at, plain_frame(s, at)))
     }
-    let f = plain_frame(s, at);
-    read_by(s, at, f)
 }

@@ -4,43 +4,46 @@ ghost use Rattle.text.specs.Text.{Put};
 ghost use Rattle.files.specs.Dump.{stop_text, found_text, place_text, longest_place, dump_of};
 ghost use Rattle.files.specs.Fit.{longest, answers, leaves};
 
-use crate::Read;
 use crate::fit::{LONGEST, TOO_LONG};
-use crate::frames::{BAD_LENGTH, CUT_SHORT};
 use crate::lent::found_at;
 use crate::lines::put_numbered_line;
 use crate::places::{count_records, place_after};
 use crate::words::put_entry;
+use crate::{Record, Unreadable};
 
-fn put_stop(out: &mut [u8], at: usize, number: u8) -> usize
+fn put_stop(out: &mut [u8], at: usize, stop: Unreadable) -> usize
     requires { at < 2 ^ 60 }
-    ensures put { Put out.old at (stop_text number) out.new result }
+    ensures put { Put out.old at (stop_text stop) out.new result }
     ensures upper_bound { result ≤ at + 13 }
 {
-    if number == CUT_SHORT {
-        return text::put_word(out, at, b" CUT-SHORT");
+    match stop {
+        Unreadable::CutShort => text::put_word(out, at, b" CUT-SHORT"),
+        Unreadable::BadLength => text::put_word(out, at, b" BAD-LENGTH"),
+        Unreadable::UnknownKind => text::put_word(out, at, b" UNKNOWN-KIND"),
     }
-    if number == BAD_LENGTH {
-        return text::put_word(out, at, b" BAD-LENGTH");
-    }
-    text::put_word(out, at, b" UNKNOWN-KIND")
 }
 
 // What a record says, or why it cannot be read.
-fn put_found(out: &mut [u8], at: usize, found: Read) -> usize
+fn put_found(out: &mut [u8], at: usize, found: Option<Result<Record, Unreadable>>) -> usize
     requires { at < 2 ^ 57 }
     ensures put { Put out.old at (found_text found) out.new result }
     ensures upper_bound { result ≤ at + 674 }
 {
     match found {
-        Read::End => at,
-        Read::Stop(number) => put_stop(out, at, number),
-        Read::Got(w, e, _) => put_entry(out, at, w, e),
+        None => at,
+        Some(Err(stop)) => put_stop(out, at, stop),
+        Some(Ok(record)) => put_entry(out, at, record.acts, record.event),
     }
 }
 
 // A record's line.
-fn put_place(out: &mut [u8], to: usize, ordinal: u32, found: Read, at: u32) -> usize
+fn put_place(
+    out: &mut [u8],
+    to: usize,
+    ordinal: u32,
+    found: Option<Result<Record, Unreadable>>,
+    at: u32,
+) -> usize
     requires { to < 2 ^ 56 }
     ensures put { Put out.old to (place_text ordinal found at) out.new result }
     ensures upper_bound { result ≤ to + longest_place }

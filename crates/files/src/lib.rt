@@ -22,7 +22,7 @@ mod write;
 pub use bodies::{component_of, count_of, nature_of, plain_at, read_at};
 pub use bytes::le2;
 pub use dump::rev_dump;
-pub use lent::{found_at, left, next, open};
+pub use lent::found_at;
 pub use listing::rev_listing;
 pub use places::count_records;
 use rows::Event;
@@ -34,26 +34,36 @@ pub use write::{
 };
 
 // Where a record acts: a plain one, of kind 1 to 6, on slot 0; one of kind 7 on the slot that it names.
-#[derive(Clone, Copy)]
+// Kept: an `Option<u16>` would read as "no slot" where a plain record acts on slot 0.
+#[derive(Clone, Copy, PartialEq, Eq)]
 pub enum Where {
     Plain,
     Slot(u16),
 }
 
-// A record's frame: the number at which reading stops; or where it acts, the kind of its event and the place after it.
-#[derive(Clone, Copy)]
-pub enum Frame {
-    Stop(u8),
-    Body(Where, u32, usize),
+// Why a record cannot be read, and reading stops at it.
+#[derive(Clone, Copy, PartialEq, Eq)]
+pub enum Unreadable {
+    CutShort,
+    BadLength,
+    UnknownKind,
 }
 
-// What stands at a place of a file: nothing; a record that cannot be read, with its number (5, 6 or 7); or where a record acts, its event
-// and the place after it.
+// A record's frame: where it acts, the kind of its event and the place after it.
 #[derive(Clone, Copy)]
-pub enum Read {
-    End,
-    Stop(u8),
-    Got(Where, Event, usize),
+pub struct Frame {
+    pub acts: Where,
+    pub kind: u32,
+    pub next: usize,
+}
+
+// A record of a file: where it acts, its event and the place after it. What stands at a place is
+// an `Option<Result<Record, Unreadable>>`: nothing, a record that cannot be read, or a record.
+#[derive(Clone, Copy)]
+pub struct Record {
+    pub acts: Where,
+    pub event: Event,
+    pub next: usize,
 }
 
 // A reader that remembers the bytes it was lent, and its place in them.
@@ -69,11 +79,4 @@ pub struct Reader<'a> {
 pub enum Unwritten {
     BadField(u8),
     NoRoom,
-}
-
-// What one reading gives: what was found, and the place where that leaves the reader.
-#[derive(Clone, Copy)]
-pub struct Taken {
-    pub found: Read,
-    pub next: usize,
 }

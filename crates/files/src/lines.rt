@@ -1,5 +1,7 @@
 // The lines of a listing: a record's, an action's, the last.
-ghost use Rattle.std.specs.Prelude.{◌≡◌, ◌+◌, ◌^◌, ◌<◌, ◌≤◌, length};
+// Kept: each text is put by a function and no type has a Display, which could not promise `Put`: the text in a lent buffer as far as it goes,
+// and the place after all of it. So it is in messages.rt and words.rt too.
+ghost use Rattle.std.specs.Prelude.{◌+◌, ◌^◌, ◌<◌, ◌≤◌, length};
 ghost use Rattle.text.specs.Text.{Put};
 ghost use Rattle.files.specs.Lines.{phase_text, rev_text, stand_text, meters_text, slot_text, line_text, numbered_line, action_text, actions_text};
 ghost use Rattle.files.specs.Lines.{record_text, longest_record};
@@ -8,32 +10,36 @@ use crate::messages::{put_released, put_sent};
 use meters::Meters;
 use rows::{APPLIED, Act, Call, Note, Outcome, Phase, RevState, Stand};
 
-fn phase_word(phase: Phase) -> &'static [u8]
-    ensures word { result.now ≡ phase_text phase }
-    ensures upper_bound { length result.now ≤ 9 }
+// Kept: an arm for each word, here and in put_rev: the length of each is known where it is put, by which a listing of expiries counts NUM
+// instructions, and PLAIN where a function gives the word and one call puts it.
+fn put_phase(out: &mut [u8], at: usize, phase: Phase) -> usize
+    requires { at < 2 ^ 60 }
+    ensures put { Put out.old at (phase_text phase) out.new result }
+    ensures upper_bound { result ≤ at + 9 }
 {
     match phase {
-        Phase::Unopened => b" NONE",
-        Phase::Null => b" NULL",
-        Phase::Setup => b" SETUP",
-        Phase::Answered => b" ANSWERED",
-        Phase::Cleared => b" CLEARED",
+        Phase::Unopened => text::put_word(out, at, b" NONE"),
+        Phase::Null => text::put_word(out, at, b" NULL"),
+        Phase::Setup => text::put_word(out, at, b" SETUP"),
+        Phase::Answered => text::put_word(out, at, b" ANSWERED"),
+        Phase::Cleared => text::put_word(out, at, b" CLEARED"),
     }
 }
 
-fn rev_word(rev: RevState) -> &'static [u8]
-    ensures word { result.now ≡ rev_text rev }
-    ensures upper_bound { length result.now ≤ 17 }
+fn put_rev(out: &mut [u8], at: usize, rev: RevState) -> usize
+    requires { at < 2 ^ 60 }
+    ensures put { Put out.old at (rev_text rev) out.new result }
+    ensures upper_bound { result ≤ at + 17 }
 {
     match rev {
-        RevState::Idle => b" IDLE",
-        RevState::WaitSetup => b" WAIT-SETUP",
-        RevState::WaitActive => b" WAIT-ACTIVE",
-        RevState::WaitAnswer => b" WAIT-ANSWER",
-        RevState::Active => b" ACTIVE",
-        RevState::WaitSetupConf => b" WAIT-SETUP-CONF",
-        RevState::WaitActiveConf => b" WAIT-ACTIVE-CONF",
-        RevState::WaitCalled => b" WAIT-CALLED",
+        RevState::Idle => text::put_word(out, at, b" IDLE"),
+        RevState::WaitSetup => text::put_word(out, at, b" WAIT-SETUP"),
+        RevState::WaitActive => text::put_word(out, at, b" WAIT-ACTIVE"),
+        RevState::WaitAnswer => text::put_word(out, at, b" WAIT-ANSWER"),
+        RevState::Active => text::put_word(out, at, b" ACTIVE"),
+        RevState::WaitSetupConf => text::put_word(out, at, b" WAIT-SETUP-CONF"),
+        RevState::WaitActiveConf => text::put_word(out, at, b" WAIT-ACTIVE-CONF"),
+        RevState::WaitCalled => text::put_word(out, at, b" WAIT-CALLED"),
     }
 }
 
@@ -42,8 +48,8 @@ fn put_stand(out: &mut [u8], at: usize, stand: Stand) -> usize
     ensures put { Put out.old at (stand_text stand) out.new result }
     ensures upper_bound { result ≤ at + 26 }
 {
-    let to = text::put_word(out, at, phase_word(stand.phase));
-    text::put_word(out, to, rev_word(stand.rev))
+    let to = put_phase(out, at, stand.phase);
+    put_rev(out, to, stand.rev)
 }
 
 fn put_meters(out: &mut [u8], at: usize, m: Meters) -> usize
@@ -57,12 +63,17 @@ fn put_meters(out: &mut [u8], at: usize, m: Meters) -> usize
 }
 
 // The slot, where slots are shown.
+// Kept: no Option of a slot, here and in put_line and put_record: whether slots are shown is one answer for a whole listing.
 fn put_slot(out: &mut [u8], at: usize, slots: bool, slot: u32) -> usize
     requires { at < 2 ^ 59 }
     ensures put { Put out.old at (slot_text slots slot) out.new result }
     ensures upper_bound { result ≤ at + 11 }
 {
-    if slots { text::put_numbered(out, at, b" ", slot) } else { at }
+    if slots {
+        text::put_numbered(out, at, b" ", slot)
+    } else {
+        at
+    }
 }
 
 // A record's line: its ordinal, its slot, its number, and the call after it.
@@ -98,6 +109,7 @@ pub(crate) fn put_numbered_line(out: &mut [u8], at: usize, word: &[u8], n: u32) 
 }
 
 // An action's line, with what it carries; none for Nothing.
+// Kept: an arm for each line: some have a word alone, some a number behind it, some a message.
 fn put_action(out: &mut [u8], at: usize, a: Act, m: Note) -> usize
     requires { at < 2 ^ 58 }
     ensures put { Put out.old at (action_text m a) out.new result }
@@ -145,5 +157,9 @@ pub(crate) fn put_record(
     ensures upper_bound { result ≤ at + longest_record }
 {
     let end = put_line(out, at, ordinal, slots, slot, o.number, o.call);
-    if o.number == APPLIED { put_actions(out, end, o) } else { end }
+    if o.number == APPLIED {
+        put_actions(out, end, o)
+    } else {
+        end
+    }
 }

@@ -44,12 +44,18 @@ fn put_component(out: &mut [u8], at: usize, component: Component) -> usize
 }
 
 // A word where its part is present.
+// Kept: a function for each thing that a part may have, a word, a word and digits, or seconds (put_digits_if, put_duration_if, and
+// put_number_if of words.rt and write.rt): each is one `if`, and one for all would be lent what it puts as a closure at each call.
 pub(crate) fn put_if(out: &mut [u8], at: usize, present: bool, word: &[u8]) -> usize
     requires { at + length word.now < 2 ^ 61 }
     ensures put { Put out.old at (if_so present word.now []) out.new result }
     ensures upper_bound { result ≤ at + length word.now }
 {
-    if present { text::put_word(out, at, word) } else { at }
+    if present {
+        text::put_word(out, at, word)
+    } else {
+        at
+    }
 }
 
 // Before the digits: what tells an international number from a national one.
@@ -90,7 +96,11 @@ fn put_digits_if(out: &mut [u8], at: usize, present: bool, word: &[u8], n: Numbe
     ensures put { Put out.old at (if_so present (with_digits word.now n) []) out.new result }
     ensures upper_bound { result ≤ at + length word.now + 256 }
 {
-    if present { put_with_digits(out, at, word, n) } else { at }
+    if present {
+        put_with_digits(out, at, word, n)
+    } else {
+        at
+    }
 }
 
 pub(crate) fn put_duration_if(out: &mut [u8], at: usize, present: bool, seconds: u32) -> usize

@@ -2,17 +2,17 @@
 ghost use Rattle.std.specs.Prelude.{◌≡◌, length};
 ghost use Rattle.files.specs.Places.{place_after, places_of};
 
-use crate::Read;
 use crate::lent::found_at;
+use crate::{Record, Unreadable};
 
 // The place after what was found; where there is no record, or none that can be read, `stay`.
-pub(crate) fn place_after(found: Read, stay: usize) -> usize
+#[tactic(auto, unfolding(crate::specs::Places::place_after))]
+pub(crate) fn place_after(found: Option<Result<Record, Unreadable>>, stay: usize) -> usize
     ensures { result ≡ place_after found stay }
 {
     match found {
-        Read::End => stay,
-        Read::Stop(_) => stay,
-        Read::Got(_, _, next) => next,
+        Some(Ok(record)) => record.next,
+        _ => stay,
     }
 }
 
@@ -20,12 +20,11 @@ pub(crate) fn place_after(found: Read, stay: usize) -> usize
 pub fn count_records(file: &[u8]) -> usize
     ensures { result ≡ length (places_of file.now) }
 {
-    let mut at: usize = 0;
-    let mut count: usize = 0;
+    let mut at = 0;
+    let mut count = 0;
     while at < file.len() {
-        let found = found_at(file, at);
         count += 1;
-        at = place_after(found, file.len());
+        at = place_after(found_at(file, at), file.len());
     }
     count
 }

@@ -270,7 +270,11 @@ fn put_number_if(out: &mut [u8], at: usize, present: bool, word: &[u8], n: Numbe
     ensures put { Put out.old at (if_so present (with_number word.now n) []) out.new result }
     ensures upper_bound { result ≤ at + length word.now + 257 }
 {
-    if present { put_with_number(out, at, word, n) } else { at }
+    if present {
+        put_with_number(out, at, word, n)
+    } else {
+        at
+    }
 }
 
 // The parts that have a value, and the bit that is no part.
@@ -371,6 +375,7 @@ fn begins_line(words: &[u8], line: &[u8]) -> bool
 }
 
 // Whether a line says an event, plain or at a slot, in its words, without the blank that they begin with.
+// Kept: room for the longest words, since nothing is taken from a heap.
 pub fn says(line: &[u8], w: Where, e: Event) -> bool
     ensures { Says line.now w e result }
 {

@@ -1,7 +1,8 @@
 // The writer: an event as a whole record at the start of a lent buffer. Its fields are judged first, then the room; where either is bad
 // nothing is stored. Each length stands as a number beside the fields that it counts: the table of fields, which is the reader's too, holds
 // it to them.
-ghost use Rattle.std.specs.Prelude.{◌≡◌, ◌+◌, ◌*◌, ◌%◌, ◌^◌, ◌<◌, ◌≤◌, length};
+ghost use Rattle.std.specs.Prelude.{◌≡◌, ◌+◌, ◌*◌, ◌%◌, ◌^◌, ◌<◌, ◌≤◌, [], length, IfSome};
+ghost use Rattle.text.specs.Choose.{if_so};
 ghost use Rattle.text.specs.Text.{Put};
 ghost use Rattle.rows.specs.Telephone.{same_number};
 ghost use Rattle.rows.specs.declared.Event.TheVariants.{Opening, Ask, Received, FromAccess, Expiry, Time};
@@ -9,14 +10,18 @@ ghost use Rattle.files.specs.Bodies.{count_byte, code_of, item_of, number_values
 ghost use Rattle.files.specs.Bytes.{le_of, part};
 ghost use Rattle.files.specs.Fields.{number_fields, front_fields, carried_fields, bytes_of};
 ghost use Rattle.files.specs.Frames.{length_of};
+ghost use Rattle.files.specs.declared.Unwritten.TheVariants.{BadField, NoRoom};
 ghost use Rattle.files.specs.Write.{written_of, left_of, written_at, left_at, gives_back, slot_gives, slot_leaves, nature_with, number_with, message_with};
 
 use crate::bodies::{component_of, plain_at};
-use crate::frames::{CUT_SHORT, SLOTTED, length_of};
-use crate::{Read, Unwritten};
+use crate::frames::{SLOTTED, length_of};
+use crate::{Unreadable, Unwritten};
 use rows::{Component, Event, Message, Nature, Number};
 
 // ---- The bytes of a number, least first, where there is room for them: no test of each, so that a field is stored at once.
+
+// Kept: these halves become one store of 8 bytes, where a loop over a const parameter takes 15 instructions for it, and `to_le_bytes` with
+// `copy_from_slice` 6 more.
 
 fn put_1(out: &mut [u8], at: usize, v: u8) -> usize
     requires { at + 1 ≤ length out.old }
@@ -63,7 +68,7 @@ pub fn count_byte(nature: Nature, count: u8) -> u8
 {
     match nature {
         Nature::National => count,
-        Nature::International => std::num::wrapping_add_u8(128, count),
+        Nature::International => 128u8.wrapping_add(count),
     }
 }
 
@@ -78,20 +83,23 @@ fn put_number(out: &mut [u8], at: usize, n: Number) -> usize
 }
 
 // One that has no bytes where its part is not there.
-fn put_number_if(out: &mut [u8], at: usize, present: u8, n: Number) -> usize
-    requires { (at + 9 * present ≤ length out.old) × (present < 2) }
-    ensures put { Put out.old at (bytes_of (number_fields present) (number_values n)) out.new result }
-    ensures value { result ≡ at + 9 * present }
+fn put_number_if(out: &mut [u8], at: usize, present: bool, n: Number) -> usize
+    requires { at + if_so present 9 0 ≤ length out.old }
+    ensures put { Put out.old at (if_so present (bytes_of (number_fields 1) (number_values n)) []) out.new result }
+    ensures value { result ≡ at + if_so present 9 0 }
 {
-    if present == 1 { put_number(out, at, n) } else { at }
+    if present { put_number(out, at, n) } else { at }
 }
 
-fn put_duration_if(out: &mut [u8], at: usize, present: u8, seconds: u32) -> usize
-    requires { (at + 4 * present ≤ length out.old) × (present < 2) }
-    ensures put { Put out.old at (le_of (4 * present) seconds) out.new result }
-    ensures value { result ≡ at + 4 * present }
+fn put_duration_if(out: &mut [u8], at: usize, present: bool, seconds: u32) -> usize
+    requires { at + if_so present 4 0 ≤ length out.old }
+    ensures { Put out.old at (if_so present (le_of 4 seconds) []) out.new result }
 {
-    if present == 1 { put_4(out, at, seconds as u64) } else { at }
+    if present {
+        put_4(out, at, seconds as u64)
+    } else {
+        at
+    }
 }
 
 // The numbers and the duration that are present follow one another.
@@ -99,9 +107,9 @@ fn put_carried(out: &mut [u8], at: usize, m: Message) -> usize
     requires { at + 9 * part m.parts 16 + 9 * part m.parts 32 + 4 * part m.parts 64 ≤ length out.old }
     ensures { Put out.old at (bytes_of (carried_fields m.parts) (carried_values m)) out.new result }
 {
-    let mut to = put_number_if(out, at, m.parts / 16 % 2, m.calling);
-    to = put_number_if(out, to, m.parts / 32 % 2, m.called);
-    put_duration_if(out, to, m.parts / 64 % 2, m.duration)
+    let mut to = put_number_if(out, at, m.parts / 16 % 2 == 1, m.calling);
+    to = put_number_if(out, to, m.parts / 32 % 2 == 1, m.called);
+    put_duration_if(out, to, m.parts / 64 % 2 == 1, m.duration)
 }
 
 pub fn code_of(component: Component) -> u8
@@ -215,45 +223,79 @@ fn put_time(out: &mut [u8], seconds: u32) -> usize
     put_4(out, to, seconds as u64)
 }
 
-// The record of any event.
-fn put_event(out: &mut [u8], e: Event) -> usize
-    requires { length (record_of e) ≤ length out.old }
-    ensures { Put out.old 0 (record_of e) out.new result }
+// ---- Each kind: 3, then 8, then the record
+
+// What refuses an event: the field of it that is bad; or a record longer than the room.
+fn judge(bad: Option<u8>, size: usize, room: usize) -> Result<(), Unwritten>
+    ensures field { IfSome bad (λ k. result ≡ Err (BadField k)) }
+    ensures narrow { bad ≡ None → room < size → result ≡ Err NoRoom }
+    ensures good { bad ≡ None → size ≤ room → result ≡ Ok tt }
 {
-    match e {
-        Event::Opening(role, flags, own) => put_opening(out, role, flags, own),
-        Event::Ask(item, called) => put_ask(out, item, called),
-        Event::Received(m) => put_message(out, m),
-        Event::FromAccess(item, error) => put_access(out, item, error),
-        Event::Expiry => put_expiry(out),
-        Event::Time(seconds) => put_time(out, seconds),
+    match bad {
+        Some(field) => Err(Unwritten::BadField(field)),
+        None if room < size => Err(Unwritten::NoRoom),
+        None => Ok(()),
     }
 }
 
-// How many bytes it has, with the two of its length.
-fn record_size(e: Event) -> usize
-    ensures { result ≡ length (record_of e) }
+fn write_opening(role: u8, flags: u8, own: Number, out: &mut [u8]) -> Result<usize, Unwritten>
+    ensures { (result ≡ written_of (Opening role flags own) out.old)
+        × (out.new ≡ left_of (Opening role flags own) out.old) }
 {
-    match e {
-        Event::Opening(..) => 15,
-        Event::Ask(..) => 14,
-        Event::Received(m) => message_size(m.parts),
-        Event::FromAccess(..) => 6,
-        Event::Expiry => 4,
-        Event::Time(_) => 8,
-    }
+    judge(rows::opening_bad(role, flags, own), 15, out.len())?;
+    Ok(put_opening(out, role, flags, own))
+}
+
+fn write_ask(item: u8, called: Number, out: &mut [u8]) -> Result<usize, Unwritten>
+    ensures { (result ≡ written_of (Ask item called) out.old)
+        × (out.new ≡ left_of (Ask item called) out.old) }
+{
+    judge(rows::ask_bad(item, called), 14, out.len())?;
+    Ok(put_ask(out, item, called))
+}
+
+fn write_message(m: Message, out: &mut [u8]) -> Result<usize, Unwritten>
+    ensures { (result ≡ written_of (Received m) out.old) × (out.new ≡ left_of (Received m) out.old) }
+{
+    judge(rows::message_bad(m), message_size(m.parts), out.len())?;
+    Ok(put_message(out, m))
+}
+
+fn write_access(item: u8, error: u8, out: &mut [u8]) -> Result<usize, Unwritten>
+    ensures { (result ≡ written_of (FromAccess item error) out.old)
+        × (out.new ≡ left_of (FromAccess item error) out.old) }
+{
+    judge(rows::access_bad(item, error), 6, out.len())?;
+    Ok(put_access(out, item, error))
+}
+
+fn write_expiry(out: &mut [u8]) -> Result<usize, Unwritten>
+    ensures { (result ≡ written_of Expiry out.old) × (out.new ≡ left_of Expiry out.old) }
+{
+    judge(None, 4, out.len())?;
+    Ok(put_expiry(out))
+}
+
+fn write_time(seconds: u32, out: &mut [u8]) -> Result<usize, Unwritten>
+    ensures { (result ≡ written_of (Time seconds) out.old) × (out.new ≡ left_of (Time seconds) out.old) }
+{
+    judge(rows::time_bad(seconds), 8, out.len())?;
+    Ok(put_time(out, seconds))
 }
 
 // ---- For hosts
 
-// Any event: 3, then 8, then the record.
+// Any event.
 pub fn write_event(e: Event, out: &mut [u8]) -> Result<usize, Unwritten>
     ensures { (result ≡ written_of e out.old) × (out.new ≡ left_of e out.old) }
 {
-    match rows::bad_field(e) {
-        Some(field) => Err(Unwritten::BadField(field)),
-        None if out.len() < record_size(e) => Err(Unwritten::NoRoom),
-        None => Ok(put_event(out, e)),
+    match e {
+        Event::Opening(role, flags, own) => write_opening(role, flags, own, out),
+        Event::Ask(item, called) => write_ask(item, called, out),
+        Event::Received(m) => write_message(m, out),
+        Event::FromAccess(item, error) => write_access(item, error, out),
+        Event::Expiry => write_expiry(out),
+        Event::Time(seconds) => write_time(seconds, out),
     }
 }
 
@@ -324,7 +366,7 @@ pub fn rev_write_opening(
         × (out.new ≡ left_of (Opening role flags (number_with international count value)) out.old) }
 {
     let own = number_with(international, count, value);
-    gives_back(write_event(Event::Opening(role, flags, own), out))
+    gives_back(write_opening(role, flags, own, out))
 }
 
 pub fn rev_write_request(
@@ -338,7 +380,7 @@ pub fn rev_write_request(
         × (out.new ≡ left_of (Ask request (number_with international count value)) out.old) }
 {
     let called = number_with(international, count, value);
-    gives_back(write_event(Event::Ask(request, called), out))
+    gives_back(write_ask(request, called, out))
 }
 
 pub fn rev_write_message(
@@ -376,27 +418,27 @@ pub fn rev_write_message(
         called: number_with(calledinternational, calledcount, calledvalue),
         duration,
     };
-    gives_back(write_event(Event::Received(m), out))
+    gives_back(write_message(m, out))
 }
 
 pub fn rev_write_access(told: u8, error: u8, out: &mut [u8]) -> u32
     ensures { (result ≡ gives_back (written_of (FromAccess told error) out.old))
         × (out.new ≡ left_of (FromAccess told error) out.old) }
 {
-    gives_back(write_event(Event::FromAccess(told, error), out))
+    gives_back(write_access(told, error, out))
 }
 
 pub fn rev_write_expiry(out: &mut [u8]) -> u32
     ensures { (result ≡ gives_back (written_of Expiry out.old)) × (out.new ≡ left_of Expiry out.old) }
 {
-    gives_back(write_event(Event::Expiry, out))
+    gives_back(write_expiry(out))
 }
 
 pub fn rev_write_time(seconds: u32, out: &mut [u8]) -> u32
     ensures { (result ≡ gives_back (written_of (Time seconds) out.old))
         × (out.new ≡ left_of (Time seconds) out.old) }
 {
-    gives_back(write_event(Event::Time(seconds), out))
+    gives_back(write_time(seconds, out))
 }
 
 // A record of kind 7 around the plain record that a host in C hands over: 5, 6 or 7 if none can be read there, then 3 and 8 as of any event.
@@ -405,9 +447,9 @@ pub fn rev_write_slot(slot: u16, inner: &[u8], out: &mut [u8]) -> u32
         × (out.new ≡ slot_leaves (plain_at inner.now 0) slot out.old) }
 {
     match plain_at(inner, 0) {
-        Read::End => CUT_SHORT as u32,
-        Read::Stop(number) => number as u32,
-        Read::Got(_, e, _) => gives_back(write_at_slot(slot, e, out)),
+        None => u32::from(Unreadable::CutShort.number()),
+        Some(Err(stop)) => u32::from(stop.number()),
+        Some(Ok(record)) => gives_back(write_at_slot(slot, record.event, out)),
     }
 }
 

@@ -7,8 +7,6 @@ use native.Mathlib.Omega.{arith}
 use lib.ListN.{length}
 use Rattle.std.specs.Prelude.{Some, None}
 use Rattle.text.proofs.Cases.{yes_eq, no_eq, both_eq, yes_lt, no_lt, both_lt}
-use Rattle.files.specs.declared.Read.{Read}
-use Rattle.files.specs.declared.Where.{Where}
 use Rattle.rows.specs.Valid.{ordinal, bad_field_of}
 use Rattle.rows.proofs.Ranges.{none_told, some_told}
 use Rattle.rows.specs.declared.Event.{Event}
@@ -27,7 +25,7 @@ use Rattle.wire.proofs.Fits.{FitsHeld, read_fits, walk_fits}
 use Rattle.wire.proofs.Places.{Placed, component_placed, parameter_most}
 use Rattle.wire.proofs.Walks.{read_on, walk_end, walk_on, good_walk, bad_refused}
 use Rattle.peers.specs.Entries.{with_rest, gives_of, or_none, read_gives, read_leaves}
-use Rattle.peers.specs.Entries.{nearest, in_record, sent_bad, send_gives, send_leaves, write_gives, write_leaves}
+use Rattle.peers.specs.Entries.{nearest, in_record, sent_bad, send_gives, send_leaves}
 use Rattle.peers.specs.Messages.{no_component, carried_of, sent_of}
 use Rattle.peers.proofs.Entered.{Gave, gives_bad, Carried, Reads}
 use Rattle.peers.proofs.Ranges.{fits_ranged, none_ranged}
@@ -230,23 +228,3 @@ module _ (e : Event) (id : ℕ) (out : List ℕ) where
 
   pub event_message : (m : Message) (r : ℕ) (new : List ℕ) → e ≡ Received m → Sends (Received m) id out r new → Sends e id out r new
   event_message m r new f g = subst (λ (x : Event). Sends x id out r new) (sym f) g
-
--- what is given and left for what was read
-abbrev Writes : Read → ℕ → List ℕ → ℕ → List ℕ → Type 0
-Writes x id out r new = (r ≡ write_gives x id out) × (new ≡ write_leaves x id out)
-
-module _ (f x : Read) (id : ℕ) (out : List ℕ) (e : f ≡ x) where
-  pub entry_none : f ≡ Read.End → Writes x id out 5 out
-  unfolding write_gives write_leaves
-  entry_none g = subst (λ (y : Read). Writes y id out 5 out) (sym g ∙ e) (refl, refl)
-
-  pub entry_stop : (n r : ℕ) → f ≡ Read.Stop n → r ≡ with_rest n 0 → Writes x id out r out
-  unfolding write_gives write_leaves
-  entry_stop n r g h = let k : r ≡ n = omega arith in subst (λ (y : Read). Writes y id out r out) (sym g ∙ e) (k, refl)
-
-  pub entry_got : (w : Where) (ev : Event) (next i r : ℕ) (new : List ℕ) → f ≡ Read.Got w ev next → i ≡ id
-      → Sends ev i out r new → Writes x id out r new
-  unfolding write_gives write_leaves
-  entry_got w ev next i r new g h k =
-      subst (λ (y : Read). Writes y id out r new) (sym g ∙ e)
-      (subst (λ (j : ℕ). Sends ev j out r new) h k)

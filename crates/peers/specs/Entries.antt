@@ -1,13 +1,12 @@
 -- What a host in C gives and gets: a parameter, and an entry for each of its components. An entry is an identifier, two bytes, least first,
 -- and a whole record of kind 3. What is given back is a number and a rest, as number + 256 * rest.
 -- Assumes nothing.
-use Rattle.std.specs.Prelude.{◌&&◌, ◌≡◌, List, [], ◌∷◌, ◌++◌, ℕ, ◌+◌, ◌*◌, ◌≤◌, leb, length}
+use Rattle.std.specs.Prelude.{◌&&◌, ◌≡◌, List, [], ◌∷◌, ◌++◌, ℕ, ◌+◌, ◌*◌, ◌≤◌, leb, length, None, Some, Ok, Err}
 use Rattle.std.proofs.lemmas.List.Edits.{sets}
 use Rattle.text.specs.Choose.{if_lt, if_eq}
-use Rattle.files.specs.Bodies.{record_of, plain_at}
+use Rattle.files.specs.Bodies.{record_of, Reading, plain_at}
 use Rattle.files.specs.Bytes.{le_at, le_of}
-use Rattle.files.specs.Frames.{cut_short}
-use Rattle.files.specs.declared.Read.{Read}
+use Rattle.files.specs.Frames.{cut_short, stop_number}
 use Rattle.rows.specs.Numbers.{bad_field}
 use Rattle.rows.specs.Valid.{first_false, bad_field_of}
 use Rattle.rows.specs.declared.Event.{Event}
@@ -93,7 +92,7 @@ abbrev pub identifier_at : List ℕ → ℕ
 identifier_at entry = le_at 2 entry 0
 
 -- the record stands behind the identifier; it is a plain one, of kind 1 to 6
-abbrev pub record_at : List ℕ → Read
+abbrev pub record_at : List ℕ → Reading
 record_at entry = plain_at entry 2
 
 -- Of two ordinals, each 0 if there is none, the first
@@ -127,12 +126,12 @@ send_leaves Expiry id out = out
 send_leaves (Time seconds) id out = out
 
 -- 5 where no record stands there; 5, 6 or 7 where it cannot be read
-unfoldable pub write_gives : Read → ℕ → List ℕ → ℕ
-write_gives Read.End id out = cut_short
-write_gives (Read.Stop n) id out = n
-write_gives (Read.Got w e next) id out = send_gives e id out
+unfoldable pub write_gives : Reading → ℕ → List ℕ → ℕ
+write_gives None id out = cut_short
+write_gives (Some (Err stop)) id out = stop_number stop
+write_gives (Some (Ok found)) id out = send_gives found.event id out
 
-unfoldable pub write_leaves : Read → ℕ → List ℕ → List ℕ
-write_leaves Read.End id out = out
-write_leaves (Read.Stop n) id out = out
-write_leaves (Read.Got w e next) id out = send_leaves e id out
+unfoldable pub write_leaves : Reading → ℕ → List ℕ → List ℕ
+write_leaves None id out = out
+write_leaves (Some (Err stop)) id out = out
+write_leaves (Some (Ok found)) id out = send_leaves found.event id out

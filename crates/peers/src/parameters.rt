@@ -10,11 +10,9 @@ ghost use Rattle.peers.specs.Entries.{nearest, in_record, send_gives, send_leave
 
 use crate::entries::{BAD_FIELD, with_rest, write_one, write_several};
 use crate::messages::{carried, none};
-use files::Read;
+use files::Unreadable;
 use rows::{Event, Message};
 use wire::{Component, Written};
-
-const CUT_SHORT: u32 = 5;
 
 // ---- from a parameter to entries
 
@@ -125,14 +123,14 @@ fn write_event(e: Event, id: u16, out: &mut [u8]) -> u32
 }
 
 // The parameter of an entry, which is an identifier and a record of kind 3. What follows the record is not looked at.
+#[tactic(auto, unfolding(crate::specs::Entries::write_gives, crate::specs::Entries::write_leaves))]
 pub fn rev_write_parameter(entry: &[u8], out: &mut [u8]) -> u32
     ensures { (result ≡ write_gives (record_at entry.now) (identifier_at entry.now) out.old)
         × (out.new ≡ write_leaves (record_at entry.now) (identifier_at entry.now) out.old) }
 {
-    let f = files::plain_at(entry, 2);
-    match f {
-        Read::End => CUT_SHORT,
-        Read::Stop(n) => with_rest(n, 0),
-        Read::Got(_, e, _) => write_event(e, identifier(entry), out),
+    match files::plain_at(entry, 2) {
+        None => u32::from(Unreadable::CutShort.number()),
+        Some(Err(stop)) => with_rest(stop.number(), 0),
+        Some(Ok(record)) => write_event(record.event, identifier(entry), out),
     }
 }

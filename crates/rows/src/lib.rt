@@ -20,7 +20,7 @@ mod why;
 use meters::{Change, Meters};
 pub use numbers::APPLIED;
 pub use telephone::same_number;
-pub use valid::{access_bad, ask_bad, bad_field, in_range, message_bad, opening_bad, time_bad};
+pub use valid::{access_bad, ask_bad, in_range, message_bad, opening_bad, time_bad};
 
 #[derive(Clone, Copy)]
 pub enum Role {

@@ -398,7 +398,7 @@ pub fn time_bad(seconds: u32) -> Option<u8>
     if DAY < seconds { Some(1) } else { None }
 }
 
-pub fn bad_field(e: Event) -> Option<u8>
+pub(crate) fn bad_field(e: Event) -> Option<u8>
     ensures { result ≡ ordinal (bad_field_of e) }
 {
     match e {

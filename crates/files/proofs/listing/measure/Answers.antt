@@ -6,6 +6,6 @@ pub returns-then-plain : goal.returns-then-plain
 returns-then-plain c =
     (listed_length _ _ _ (sym c.if-plain.true ∙ c.write-plain.ensures.slots_value) c.write.ensures.put.place, c.write.ensures.slots_value)
 
-pub returns : goal.returns
-returns c =
+pub returns-else-plain : goal.returns-else-plain
+returns-else-plain c =
     (listed_length _ _ _ (sym c.if-plain.false ∙ c.write-plain.ensures.slots_value) c.write-plain.ensures.put.place, c.write-plain.ensures.slots_value)

@@ -16,4 +16,4 @@ returns-then-out-all c =
 pub returns : goal.returns
 returns c =
     fit_as _ _ _ _ (omega arith) (c.measure-all.ensures.0 ∙ sym (zero-add _)) c.measure-all.new.nothing _ _ (omega arith) c.measure-all.auto.nothing
-    (listed_as _ _ _ _ _ _ c.measure-all.ensures.1 c.write-done.ensures.put)
+    (listed_as _ _ _ _ _ _ c.measure-all.ensures.1 c.write.ensures.put)

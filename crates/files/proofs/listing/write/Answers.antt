@@ -1,4 +1,5 @@
-use Rattle.std.proofs.Common.{refl}
+use Rattle.std.proofs.Common.{sym, refl, ap, ◌∙◌}
+use Rattle.files.specs.Listing.{index_of}
 use Rattle.files.proofs.Turns.{Found, listed_start, found_here, found_there, listed_by, listed_done, listed_names, frame_falls}
 use Rattle.files.proofs.listing.write.Goals as goal
 use Rattle.files.proofs.listing.write.Goals.{then-index-held, else-index-held}
@@ -18,7 +19,7 @@ loop-at-preserved c =
       | else-index-held w ↦ found_here c.loop-at.invariant _ _ _ _ w.if-index-held.false w.call-is w.row-is w.held-is
     ] in
     listed_by _ _ _ _ c.loop-at-test.true c.frame-f.ensures c.after_frame-at.ensures
-    _ _ _ _ _ _ _ _ _ _ _ _ _ _ _ _ _ _ held_now c.slot_framed-slot.ensures.0 c.index_of-index.ensures.0 refl c.answer-o.ensures
+    _ _ _ _ _ _ _ _ _ _ _ _ _ _ _ _ _ _ held_now (c.from.ensures ∙ c.slot_framed-slot.ensures) (c.index_of-index.ensures.0 ∙ ap index_of (sym c.from.ensures)) refl c.answer-o.ensures
     c.names_framed-named.ensures refl c.put_record-to.ensures.put c.put_record-to.ensures.upper_bound
 
 pub returns-clause-put : goal.returns-clause-put
