@@ -13,6 +13,8 @@ use Rattle.wire.proofs.Levels.{HeadWithin, head_within, Within, Ends, element_by
 use Rattle.wire.proofs.Walks.{Twelve, head_twelve, extra_stops}
 use Rattle.wire.specs.Answers.{Head, Seen}
 use Rattle.std.specs.Prelude.{Ok, Err}
+use Rattle.std.specs.Prelude.{Bool, true}
+use Rattle.text.proofs.Cases.{both_so}
 
 -- ---- a refusal's number is 12, 13 or 14
 
@@ -26,7 +28,7 @@ unfolding enter
 enter_told (Err n) at end depth known held w t f = (omega arith, omega arith)
 enter_told (Ok el) at end depth known held (h, g, i) t f =
     both_eq _ _ Told _ _ (λ _. (omega arith, omega arith)) λ _.
-    both_eq _ _ Told _ _ (λ _. (omega arith, omega arith)) λ _.
+    both_so _ Told _ _ (λ _. (omega arith, omega arith)) λ _.
     both_eq _ _ Told _ _ (λ _. f el.body el.next (depth - 1) 0 h g i) (λ _. tt)
 
 follow_told : (x : Seen) (at end : ℕ) (rest : ℕ → Seen) → Told x → Within at end x → ((next : ℕ) → at + 2 ≤ next → next ≤ end → Told (rest next)) → Told (follow x rest)
@@ -105,12 +107,12 @@ may_got s c end tag least most =
     (λ h e. absurd (h e))
 
 -- contents that were looked at: the cursor is the one before, and they were ok if there are any
-pub checked_live : (ok from : ℕ) (c : Cursor) → (checked_of ok from c).number ≡ 0 → (checked_of ok from c ≡ c) × ((c.body ≡ 0 → ⊥) → ok ≡ 1)
+pub checked_live : (ok : Bool) (from : ℕ) (c : Cursor) → (checked_of ok from c).number ≡ 0 → (checked_of ok from c ≡ c) × ((c.body ≡ 0 → ⊥) → ok ≡ true)
 unfolding checked_of stopped_of
 checked_live ok from c =
-    both_eq c.body 0 (λ (x : Cursor). x.number ≡ 0 → (x ≡ c) × ((c.body ≡ 0 → ⊥) → ok ≡ 1)) _ _
+    both_eq c.body 0 (λ (x : Cursor). x.number ≡ 0 → (x ≡ c) × ((c.body ≡ 0 → ⊥) → ok ≡ true)) _ _
     (λ h _. (refl, λ g. absurd (g h)))
-    (λ h. both_eq ok 1 (λ (x : Cursor). x.number ≡ 0 → (x ≡ c) × ((c.body ≡ 0 → ⊥) → ok ≡ 1)) _ _ (λ g _. (refl, λ _. g)) (λ _ e. absurd (omega arith)))
+    (λ h. both_so ok (λ (x : Cursor). x.number ≡ 0 → (x ≡ c) × ((c.body ≡ 0 → ⊥) → ok ≡ true)) _ _ (λ g _. (refl, λ _. g)) (λ _ e. absurd (omega arith)))
 
 seen_ends : (x : Seen) (end : ℕ) → Told x → Ends end x → (seen_of x).number ≡ 0 → (seen_of x).at ≡ end
 unfolding seen_of absent_of stopped_of

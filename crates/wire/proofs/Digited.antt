@@ -15,6 +15,9 @@ use Rattle.wire.proofs.Pieces.{octets_length}
 use Rattle.wire.proofs.Back.{Holds, holds_left, holds_right, holds_first, holds_second, holds_after}
 use Rattle.wire.specs.Answers.{Digits}
 use Rattle.std.specs.Prelude.{Some}
+use Rattle.std.specs.Prelude.{true, false, not, eqb}
+use Rattle.text.proofs.Cases.{yes_so, no_so}
+use borrow.Author.Tests.{ne_eqb}
 
 pair_back : (v : ℕ) → Some v ≡ paired_of (v / 100) (pair_byte (v % 100))
 unfolding paired_of
@@ -49,15 +52,15 @@ hundred (suc m) =
 pub number_eq : (n : Number) (x y : ℕ) → n.count ≡ x → n.value ≡ y → n ≡ record { count = x; value = y }
 number_eq n x y e f = rw (sym e, sym f)
 
-counted_odd : (n : Number) (m k : ℕ) → (m ≡ 0 → ⊥) → n.count ≡ k + (2 * m - 1) → n ≡ counted_of m 1 k (n.value * 10)
+counted_odd : (n : Number) (m k : ℕ) → (m ≡ 0 → ⊥) → n.count ≡ k + (2 * m - 1) → n ≡ counted_of m true k (n.value * 10)
 unfolding counted_of
-counted_odd n m k h e = no_eq _ _ _ _ _ h (yes_eq _ _ _ _ _ refl (yes_eq _ _ _ _ _ (omega arith) (number_eq n _ _ e (omega arith))))
+counted_odd n m k h e = no_eq _ _ _ _ _ h (yes_so _ _ _ _ refl (yes_eq _ _ _ _ _ (omega arith) (number_eq n _ _ e (omega arith))))
 
-counted_even : (n : Number) (m k : ℕ) → (m ≡ 0 → ⊥) → (m ≡ 8 → ⊥) → n.count ≡ k + 2 * m → n ≡ counted_of m 0 k n.value
+counted_even : (n : Number) (m k : ℕ) → (m ≡ 0 → ⊥) → (m ≡ 8 → ⊥) → n.count ≡ k + 2 * m → n ≡ counted_of m false k n.value
 unfolding counted_of
-counted_even n m k h g e = no_eq _ _ _ _ _ h (no_eq _ _ _ _ _ (λ f. omega arith) (no_eq _ _ _ _ _ g (number_eq n _ _ e refl)))
+counted_even n m k h g e = no_eq _ _ _ _ _ h (no_so _ _ _ _ refl (no_eq _ _ _ _ _ g (number_eq n _ _ e refl)))
 
-natured_back : (n : Number) (m v o z : ℕ) → z < 2 → n ≡ counted_of m o (z * 128) v → n ≡ natured_of m (o * 128 + z + 3) 19 v
+natured_back : (n : Number) (m v o z : ℕ) → z < 2 → n ≡ counted_of m (eqb o 1) (z * 128) v → n ≡ natured_of m (o * 128 + z + 3) 19 v
 unfolding natured_of
 natured_back n m v o zero h e =
     let q : (o * 128 + 0 + 3) / 128 ≡ o = omega arith in yes_eq _ _ _ _ _ refl (yes_eq _ _ _ _ _ (omega arith) (rw q e))
@@ -82,7 +85,7 @@ module _ (n : Number) (f : Fine n) where
       let p : 10 ^ (n.count % 128) ≤ 10 ^ 15 = pow-le-pow_right (omega arith) h in
       let g = f.fits in omega arith
 
-  by_parity : (o : ℕ) → n.count % 2 ≡ o → (padded_of n.count n.value < 100 ^ octet_count n) × (n ≡ counted_of (octet_count n) o (n.count / 128 * 128) (padded_of n.count n.value))
+  by_parity : (o : ℕ) → n.count % 2 ≡ o → (padded_of n.count n.value < 100 ^ octet_count n) × (n ≡ counted_of (octet_count n) (eqb o 1) (n.count / 128 * 128) (padded_of n.count n.value))
   unfolding padded_of
   by_parity zero e =
       let z : padded_of n.count n.value ≡ n.value = sym (no_eq _ _ _ _ _ (λ k. omega arith) (let b = below in omega arith)) in
@@ -128,6 +131,6 @@ module _ (n : Number) (f : Fine n) where
       ∙ ap (λ (z : ℕ). natured_of (octet_count n) (byte_at s i) z (padded_of n.count n.value)) (sym y)
       ∙ ap (λ (z : Digits). digited_of (octet_count n) (byte_at s i) (byte_at s (i + 1)) z) q)))))
 
-  pub there_back : there_of n ≡ 1
+  pub there_back : there_of n ≡ true
   unfolding there_of
-  there_back = sym (no_eq _ _ _ _ _ (λ e. let a = f.some in omega arith) refl)
+  there_back = let a = f.some in ap not (ne_eqb n.count 0 (λ e. omega arith))

@@ -24,6 +24,10 @@ use Rattle.wire.proofs.Bounds.{need_took, checked_live, closed_live, inside_live
 use Rattle.wire.proofs.Spent.{Bytes, Agrees, invoke_enough, result_enough, number_is}
 use Rattle.wire.specs.Answers.{Answer, Head}
 use Rattle.std.specs.Prelude.{Ok, Err}
+use Rattle.std.specs.Prelude.{Bool, true, eqb}
+use Rattle.text.proofs.Cases.{no_so}
+use Rattle.std.proofs.lemmas.Bool.Decides.{nat_tests}
+use borrow.Author.Tests.{ne_eqb}
 
 -- kind, operation or error, and parts
 pub data Shaped (k n p : ℕ) : Type 0 where
@@ -57,12 +61,12 @@ answer_ours s c m f = both_eq c.number 0 (Ours s) _ _ f (λ _. tt)
 
 -- ---- a component that was made
 
-number_fine : (b : ℕ) (n : Number) → (b ≡ 1 → Fine n) → b ≡ 1 → Fine (number_if b n)
+number_fine : (b : ℕ) (n : Number) → (b ≡ 1 → Fine n) → b ≡ 1 → Fine (number_if (eqb b 1) n)
 number_fine b n f e = subst Fine (sym (number_is b n e)) (f e)
 
-number_none : (b : ℕ) (n : Number) → b ≡ 0 → number_if b n ≡ absent_number
+number_none : (b : ℕ) (n : Number) → b ≡ 0 → number_if (eqb b 1) n ≡ absent_number
 unfolding number_if
-number_none b n e = sym (no_eq b 1 _ _ _ (λ f. omega arith) refl)
+number_none b n e = sym (no_so (eqb b 1) _ _ _ (ne_eqb b 1 (λ f. omega arith)) refl)
 
 made_fits : (s : List ℕ) (k x i ok : ℕ) (d : Said) → (ok ≡ 1 → Shaped k x d.parts) → Agrees s d ok → (Bytes s → i < 256)
     → Fits (made_of k x d i) × (Bytes s → Ranged (made_of k x d i))
@@ -96,13 +100,9 @@ bare_fits s k x i h f g = (
 
 -- ---- operation or error, identifier
 
-listed_inv : (p n low high : ℕ) → listed_of p n low high ≡ 1 → (low ≤ n) × (n ≤ high)
+listed_inv : (p : Bool) (n low high : ℕ) → listed_of p n low high ≡ true → (low ≤ n) × (n ≤ high)
 unfolding listed_of
-listed_inv p n low high =
-    both_eq p 1 (λ (z : ℕ). z ≡ 1 → (low ≤ n) × (n ≤ high)) _ _
-    (λ _. both_lt n low (λ (z : ℕ). z ≡ 1 → (low ≤ n) × (n ≤ high)) _ _ (λ _ e. absurd (omega arith))
-    (λ g. both_lt high n (λ (z : ℕ). z ≡ 1 → (low ≤ n) × (n ≤ high)) _ _ (λ _ e. absurd (omega arith)) (λ k _. (g, k))))
-    (λ _ e. absurd (omega arith))
+listed_inv p n low high e = (grind (arith, nat_tests), grind (arith, nat_tests))
 
 code_item : (s : List ℕ) (c : Cursor) (end low high : ℕ) → (code_of s c end low high).number ≡ 0
     → (low ≤ item_at s (code_of s c end low high)) × (item_at s (code_of s c end low high) ≤ high)

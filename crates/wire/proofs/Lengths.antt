@@ -11,6 +11,7 @@ use Rattle.wire.specs.Bytes.{byte_at, big_at, capped}
 use Rattle.wire.specs.Heads.{tag_by, tag_after, length_place, filled_of, length_of, head_from, head_of}
 use Rattle.wire.specs.Answers.{Head}
 use Rattle.std.specs.Prelude.{Err}
+use Rattle.std.specs.Prelude.{max}
 
 pub past_end : (s : List ℕ) (i : ℕ) → length s ≤ i → 0 ≡ byte_at s i
 past_end s i h = sym (get_or-eq_default s 0 h)
@@ -25,11 +26,6 @@ cap_low n h = yes_lt _ _ _ _ _ h refl
 pub cap_high : (n : ℕ) → most ≤ n → most ≡ capped n
 unfolding capped
 cap_high n h = no_lt _ _ _ _ _ h refl
-
--- what 64 bits hold stays; M itself stands for itself too
-pub cap_fits : (n : ℕ) → n ≤ most → n ≡ capped n
-unfolding capped
-cap_fits n h = both_lt n most (λ (x : ℕ). n ≡ x) _ _ (λ _. refl) (λ g. omega arith)
 
 -- a further byte, of the number cut or whole
 cap_by : (P : ℕ → Type 0) (n : ℕ) → P n → (most ≤ n → P most) → P (capped n)
@@ -76,20 +72,22 @@ module _ (s : List ℕ) (j end : ℕ) where
 
 -- the loop: from j on the same is found as from i on
 pub record Tagging (s : List ℕ) (i end j : ℕ) : Type 0 where
+  pub from : i ≤ j
+  pub most : j ≤ max i end
   pub same : tag_after s j end ≡ tag_after s i end
 
 pub tagging_start : (s : List ℕ) (i end : ℕ) → Tagging s i end i
-tagging_start s i end = record { same = refl }
+tagging_start s i end = record { from = omega arith; most = omega arith; same = refl }
 
 module _ (s : List ℕ) (i end j : ℕ) (t : Tagging s i end j) where
-  pub tagging_done : end ≤ j → j ≡ tag_after s i end
-  tagging_done h = tag_done s j end h ∙ t.same
+  pub tagging_done : (m : ℕ) → end ≤ j → m ≡ max i end → m ≡ tag_after s i end
+  tagging_done m h e = let a = t.from in let b = t.most in let z : m ≡ j = omega arith in z ∙ tag_done s j end h ∙ t.same
 
   pub tagging_last : (b : ℕ) → j < end → b ≡ byte_at s j → b < 128 → j + 1 ≡ tag_after s i end
   tagging_last b h e g = tag_last s j end h b e g ∙ t.same
 
   pub tagging_on : (b : ℕ) → j < end → b ≡ byte_at s j → 128 ≤ b → Tagging s i end (j + 1)
-  tagging_on b h e g = record { same = tag-more s j end h (omega arith) ∙ t.same }
+  tagging_on b h e g = let a = t.from in record { from = omega arith; most = omega arith; same = tag-more s j end h (omega arith) ∙ t.same }
 
 tag_by_past : (k : ℕ) (s : List ℕ) (i : ℕ) → i ≤ tag_by k s i
 unfolding tag_by
@@ -100,10 +98,6 @@ tag_by_past (suc k) s i = both_lt _ _ (λ (x : ℕ). i ≤ x) _ _ (λ _. omega a
 pub place_past : (s : List ℕ) (at end : ℕ) → at + 1 ≤ length_place s at end
 unfolding length_place tag_after
 place_past s at end = both_eq _ _ (λ (x : ℕ). at + 1 ≤ x) _ _ (λ _. tag_by_past (end - (at + 1)) s (at + 1)) (λ _. omega arith)
-
-pub place_far : (s : List ℕ) (at end b r : ℕ) → b ≡ byte_at s at → b % 32 ≡ 31 → r ≡ tag_after s (at + 1) end → r ≡ length_place s at end
-unfolding length_place
-place_far s at end b r e f g = yes_eq _ _ _ _ _ (omega arith) g
 
 pub place_near : (s : List ℕ) (at end b : ℕ) → b ≡ byte_at s at → (b % 32 ≡ 31 → ⊥) → at + 1 ≡ length_place s at end
 unfolding length_place
@@ -118,41 +112,27 @@ filled_capped tag body end n short h g =
     cap_by (λ (x : ℕ). filled_of tag body end x short ≡ filled_of tag body end n short) n refl
     (λ k. sym (yes_lt _ _ _ _ _ (omega arith) refl) ∙ yes_lt _ _ _ _ _ (omega arith) refl)
 
-pub length_long : (s : List ℕ) (tag first after end short n : ℕ) (r : Head) → 1 ≤ after → end < 2 ^ 64 → 128 ≤ first → (first ≡ 128 → ⊥) → (first ≡ 255 → ⊥)
-    → first - 128 ≤ end - after → after ≤ end → n ≡ capped (big_at s after (first - 128)) → r ≡ filled_of tag (after + (first - 128)) end n short
+pub length_long : (s : List ℕ) (tag first after end short k n : ℕ) (r : Head) → end < 2 ^ 64 → 128 ≤ first → (first ≡ 128 → ⊥) → (first ≡ 255 → ⊥)
+    → k ≡ first - 128 → k ≤ end - after → after ≤ end → n ≡ capped (big_at s after k) → r ≡ filled_of tag (after + k) end n short
     → r ≡ length_of s tag first after end short
 unfolding length_of
-length_long s tag first after end short n r a w i j k l o e p =
-    no_lt _ _ _ _ _ i (no_eq _ _ _ _ _ j (no_eq _ _ _ _ _ k (no_lt _ _ _ _ _ (omega arith)
-    (p ∙ rw (e, filled_capped tag (after + (first - 128)) end (big_at s after (first - 128)) short (omega arith) (omega arith))))))
+length_long s tag first after end short k n r w i j h q l o e p =
+    let e1 = rw q at e in
+    let p1 = rw q at p in
+    no_lt _ _ _ _ _ i (no_eq _ _ _ _ _ j (no_eq _ _ _ _ _ h (no_lt _ _ _ _ _ (omega arith)
+    (p1 ∙ rw (e1, filled_capped tag (after + (first - 128)) end (big_at s after (first - 128)) short (omega arith) (omega arith))))))
 
 pub head_none : (s : List ℕ) (at end short : ℕ) → end ≤ at → Err short ≡ head_of s at end short
 unfolding head_of
 head_none s at end short h = yes_le _ _ _ _ _ h refl
 
 module _ (s : List ℕ) (tag place end short : ℕ) where
-  pub from_none : end ≤ place → Err short ≡ head_from s tag place end short
-  unfolding head_from
-  from_none g = yes_le _ _ _ _ _ g refl
-
   pub from_full : (b first : ℕ) (r : Head) → place < end → b ≡ byte_at s place → first ≡ b → r ≡ length_of s tag first (place + 1) end short
       → r ≡ head_from s tag place end short
   unfolding head_from
   from_full b first r g j k l = no_le _ _ _ _ _ g (l ∙ rw (k, j))
 
 module _ (s : List ℕ) (at end short tag : ℕ) (r : Head) (h : at < end) (e : tag ≡ byte_at s at) where
-  pub head_far : (place : ℕ) → tag % 32 ≡ 31 → place ≡ tag_after s (at + 1) end → r ≡ head_from s tag place end short → r ≡ head_of s at end short
-  unfolding head_of
-  head_far place g f k = no_le _ _ _ _ _ h (k ∙ rw (e, place_far s at end tag place e g f))
-
   pub head_near : (tag % 32 ≡ 31 → ⊥) → r ≡ head_from s tag (at + 1) end short → r ≡ head_of s at end short
   unfolding head_of
   head_near g k = no_le _ _ _ _ _ h (k ∙ rw (e, place_near s at end tag e g))
-
--- ---- a byte some places on
-
-pub past_low : (s : List ℕ) (i k : ℕ) → length s ≤ i → 0 ≡ byte_at s (i + k)
-past_low s i k h = past_end s (i + k) (omega arith)
-
-pub past_high : (s : List ℕ) (i k : ℕ) → i < length s → length s - i ≤ k → 0 ≡ byte_at s (i + k)
-past_high s i k h g = past_end s (i + k) (omega arith)

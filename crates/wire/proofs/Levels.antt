@@ -14,6 +14,8 @@ use Rattle.wire.specs.declared.Element.{Element}
 use Rattle.wire.specs.declared.Refusal.{Refusal}
 use Rattle.wire.specs.Answers.{Head, Seen, element, refusal}
 use Rattle.std.specs.Prelude.{Ok, Err}
+use Rattle.std.specs.Prelude.{Bool, true, false}
+use Rattle.text.proofs.Cases.{yes_so, no_so, both_so}
 
 -- ---- where what was read ends
 
@@ -53,7 +55,7 @@ unfolding enter
 enter_within (Err n) at end depth known held h f = tt
 enter_within (Ok el) at end depth known held (h, g, i) f =
     both_eq _ _ (Within at end) _ _ (λ _. tt) λ _.
-    both_eq _ _ (Within at end) _ _ (λ _. tt) λ _.
+    both_so _ (Within at end) _ _ (λ _. tt) λ _.
     both_eq _ _ (Within at end) _ _ (λ _. ends-within (held el.body el.next (depth - 1) 0) (f el.body el.next (depth - 1) 0 g)) (λ _. (omega arith, i))
   where
     ends-within : (x : Seen) → Ends el.next x → Within at end x
@@ -144,30 +146,30 @@ module _ (s : List ℕ) (at end depth known : ℕ) (h : Head) (g : h ≡ head_of
   element_by_lem : (x : Head) (r : Seen) → h ≡ x → r ≡ enter x at depth known (sequence_of s) → r ≡ element_of s at end depth known
   element_by_lem x r e f = f ∙ ap (λ (y : Head). enter y at depth known (sequence_of s)) (sym e ∙ g) ∙ sym (element_is s at end depth known)
 
-  pub element_bad : (n : ℕ) → h ≡ Err n → Err (refusal n at) ≡ element_of s at end depth known
+  pub element_bad : (n : ℕ) (r : Seen) → h ≡ Err n → r ≡ Err (refusal n at) → r ≡ element_of s at end depth known
   unfolding enter
-  element_bad n e = element_by_lem (Err n) _ e refl
+  element_bad n r e f = element_by_lem (Err n) r e f
 
   module _ (el : Element) (e : h ≡ Ok el) where
     open_within : HeadWithin at end (Ok el)
     open_within = rw (sym g ∙ e) at (head_within s at end 12)
 
-    pub element_deep : depth ≡ 0 → Err (refusal 13 at) ≡ element_of s at end depth known
+    pub element_deep : (r : Seen) → depth ≡ 0 → r ≡ Err (refusal 13 at) → r ≡ element_of s at end depth known
     unfolding enter
-    element_deep f = element_by_lem (Ok el) _ e (yes_eq _ _ _ _ _ f refl)
+    element_deep r f i = element_by_lem (Ok el) r e (yes_eq _ _ _ _ _ f i)
 
-    module _ (f : depth ≡ 0 → ⊥) (o : ℕ) (m : o ≡ own_of el.tag known) where
-      pub element_own : o ≡ 1 → Err (refusal 14 at) ≡ element_of s at end depth known
+    module _ (f : depth ≡ 0 → ⊥) (o : Bool) (m : o ≡ own_of el.tag known) where
+      pub element_own : (r : Seen) → o ≡ true → r ≡ Err (refusal 14 at) → r ≡ element_of s at end depth known
       unfolding enter
-      element_own l = element_by_lem (Ok el) _ e (no_eq _ _ _ _ _ f (yes_eq _ _ _ _ _ (sym m ∙ l) refl))
+      element_own r l i = element_by_lem (Ok el) r e (no_eq _ _ _ _ _ f (yes_so _ _ _ _ (sym m ∙ l) i))
 
-      pub element_held : (r : Seen) → (o ≡ 1 → ⊥) → el.tag / 32 % 2 ≡ 1 → r ≡ sequence_of s el.body el.next (depth - 1) 0 → r ≡ element_of s at end depth known
+      pub element_held : (r : Seen) → o ≡ false → el.tag / 32 % 2 ≡ 1 → r ≡ sequence_of s el.body el.next (depth - 1) 0 → r ≡ element_of s at end depth known
       unfolding enter
-      element_held r l i j = element_by_lem (Ok el) r e (no_eq _ _ _ _ _ f (no_eq _ _ _ _ _ (λ k. l (m ∙ k)) (yes_eq _ _ _ _ _ i j)))
+      element_held r l i j = element_by_lem (Ok el) r e (no_eq _ _ _ _ _ f (no_so _ _ _ _ (sym m ∙ l) (yes_eq _ _ _ _ _ i j)))
 
-      pub element_plain : (o ≡ 1 → ⊥) → (el.tag / 32 % 2 ≡ 1 → ⊥) → Ok el.next ≡ element_of s at end depth known
+      pub element_plain : o ≡ false → (el.tag / 32 % 2 ≡ 1 → ⊥) → Ok el.next ≡ element_of s at end depth known
       unfolding enter
-      element_plain l i = element_by_lem (Ok el) _ e (no_eq _ _ _ _ _ f (no_eq _ _ _ _ _ (λ k. l (m ∙ k)) (no_eq _ _ _ _ _ i refl)))
+      element_plain l i = element_by_lem (Ok el) _ e (no_eq _ _ _ _ _ f (no_so _ _ _ _ (sym m ∙ l) (no_eq _ _ _ _ _ i refl)))
 
     -- what an element holds is shorter than the element
     pub held_falls : (t : ℕ) → 2 * (end - at) ≡ t → 2 * (el.next - el.body) + 1 < t

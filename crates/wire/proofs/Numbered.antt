@@ -20,6 +20,8 @@ use Rattle.wire.proofs.Bounds.{Told, seq_told}
 use Rattle.wire.proofs.Walks.{Twelve, head_twelve, read_on, walk_end, walk_on}
 use Rattle.wire.specs.Answers.{Answer, Frame, Head, Seen}
 use Rattle.std.specs.Prelude.{Ok, Err}
+use Rattle.std.specs.Prelude.{Bool}
+use Rattle.text.proofs.Cases.{both_so}
 
 -- ---- cursors: 12, 13 or 14, where it is stopped
 
@@ -95,9 +97,9 @@ inside_tells : (c : Cursor) → Tells c → Tells (inside_of c)
 unfolding inside_of
 inside_tells c i = both_eq c.number 0 Tells _ _ (λ _. absent_tells c.body) (λ _. i)
 
-checked_tells : (ok from : ℕ) (c : Cursor) → Tells c → Tells (checked_of ok from c)
+checked_tells : (ok : Bool) (from : ℕ) (c : Cursor) → Tells c → Tells (checked_of ok from c)
 unfolding checked_of
-checked_tells ok from c i = both_eq c.body 0 Tells _ _ (λ _. i) (λ _. both_eq _ _ Tells _ _ (λ _. i) (λ _. other from))
+checked_tells ok from c i = both_eq c.body 0 Tells _ _ (λ _. i) (λ _. both_so ok Tells _ _ (λ _. i) (λ _. other from))
 
 -- ---- the grammar
 

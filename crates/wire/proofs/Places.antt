@@ -25,6 +25,8 @@ use Rattle.wire.proofs.Levels.{HeadWithin, head_within}
 use Rattle.wire.proofs.Pieces.{number_length}
 use Rattle.wire.specs.Answers.{Answer, Head, Seen}
 use Rattle.std.specs.Prelude.{Ok, Err}
+use Rattle.std.specs.Prelude.{Bool}
+use Rattle.text.proofs.Cases.{both_so}
 
 -- ---- elements
 
@@ -42,7 +44,7 @@ unfolding enter
 enter_bounded (Err n) at end depth known held l h f = l
 enter_bounded (Ok el) at end depth known held l (h, g, i) f =
     both_eq _ _ (Bounded end) _ _ (λ _. l) λ _.
-    both_eq _ _ (Bounded end) _ _ (λ _. l) λ _.
+    both_so _ (Bounded end) _ _ (λ _. l) λ _.
     both_eq _ _ (Bounded end) _ _ (λ _. widen (held el.body el.next (depth - 1) 0) el.next end i (f el.body el.next (depth - 1) 0 g)) (λ _. i)
 
 follow_bounded : (x : Seen) (end : ℕ) (rest : ℕ → Seen) → Bounded end x → ((next : ℕ) → next ≤ end → Bounded end (rest next))
@@ -140,10 +142,10 @@ inside_in : (e : ℕ) (c : Cursor) → In e c → In e (inside_of c)
 unfolding inside_of
 inside_in e c i = both_eq c.number 0 (In e) _ _ (λ _. absent_in e c.body i.1) (λ _. i)
 
-checked_in : (e ok from : ℕ) (c : Cursor) → In e c → from ≤ e → In e (checked_of ok from c)
+checked_in : (e : ℕ) (ok : Bool) (from : ℕ) (c : Cursor) → In e c → from ≤ e → In e (checked_of ok from c)
 unfolding checked_of
 checked_in e ok from c i h =
-    both_eq c.body 0 (In e) _ _ (λ _. i) (λ _. both_eq _ _ (In e) _ _ (λ _. i) (λ _. stopped_in e 14 from h))
+    both_eq c.body 0 (In e) _ _ (λ _. i) (λ _. both_so ok (In e) _ _ (λ _. i) (λ _. stopped_in e 14 from h))
 
 -- ---- the grammar
 

@@ -12,7 +12,7 @@ use Rattle.wire.specs.Heads.{head_of}
 use Rattle.wire.specs.Cursors.{absent_of, opened_of, inside_of, need_of, closed_of, checked_of}
 use Rattle.wire.specs.Values.{listed_at, absent_number, party_of, there_of, clock_at, seconds_at}
 use Rattle.wire.specs.Grammar.{any, code_of, flag_part, parts_of, made_of, bare_of, invoke_of, result_of, error_of}
-use Rattle.wire.specs.Quick.{begins_of, short_of, after_of, number_after, number_at, last_after, last_part, last_seconds, last_ok, number_ok, coded_at, carried_of, SaidAs, ReadAs}
+use Rattle.wire.specs.Quick.{begins_of, short_of, after_of, number_after, number_at, last_after, last_part, last_seconds, last_ok, number_ok, coded_at, SaidAs, ReadAs}
 use Rattle.wire.specs.declared.Component.{Component}
 use Rattle.wire.specs.declared.Cursor.{Cursor}
 use Rattle.wire.specs.declared.Number.{Number}
@@ -22,79 +22,10 @@ use Rattle.wire.proofs.Round.{good_opened, answer_read, invoke_by, result_by, er
 use Rattle.wire.proofs.Usual.{Begins, begins, bytes_of}
 use Rattle.wire.specs.Answers.{Answer, Form, Head, Parted, element}
 use Rattle.std.specs.Prelude.{Ok, Some, None}
-
--- ---- begins, after
-
-module _ (s : List ℕ) (i tag size : ℕ) where
-  pub begins_past : length s ≤ i → 0 ≡ begins_of s i tag size
-  unfolding begins_of
-  begins_past h = yes_lt _ _ _ _ _ (omega arith) refl
-
-  module _ (h : i < length s) where
-    pub begins_less : length s - i < 2 → 0 ≡ begins_of s i tag size
-    unfolding begins_of
-    begins_less g = yes_lt _ _ _ _ _ (omega arith) refl
-
-    module _ (g : 2 ≤ length s - i) where
-      pub begins_short : length s - i - 2 < size → 0 ≡ begins_of s i tag size
-      unfolding begins_of
-      begins_short f = yes_lt _ _ _ _ _ (omega arith) refl
-
-      pub begins_other : size ≤ length s - i - 2 → (byte_at s i ≡ tag → ⊥) → 0 ≡ begins_of s i tag size
-      unfolding begins_of
-      begins_other f k = no_lt _ _ _ _ _ (omega arith) (no_eq _ _ _ _ _ k refl)
-
-      module _ (f : size ≤ length s - i - 2) (a : ℕ) (e : a ≡ byte_at s i) where
-        module _ (k : a ≡ tag) (b w : ℕ) (d : b ≡ byte_at s (i + 1)) (v : w ≡ b) where
-          pub begins_here : w ≡ size → 1 ≡ begins_of s i tag size
-          unfolding begins_of
-          begins_here l = no_lt _ _ _ _ _ (omega arith) (yes_eq _ _ _ _ _ (sym e ∙ k) (yes_eq _ _ _ _ _ (omega arith) refl))
-
-          pub begins_sized : (w ≡ size → ⊥) → 0 ≡ begins_of s i tag size
-          unfolding begins_of
-          begins_sized l = no_lt _ _ _ _ _ (omega arith) (yes_eq _ _ _ _ _ (sym e ∙ k) (no_eq _ _ _ _ _ (λ z. l (omega arith)) refl))
-
-  pub after_past : length s ≤ i → i ≡ after_of s i tag size
-  unfolding after_of
-  after_past h = no_eq _ _ _ _ _ (λ z. let w = begins_past h in omega arith) refl
-
-  module _ (b : ℕ) (e : b ≡ begins_of s i tag size) where
-    pub after_fits : b ≡ 1 → length s < 2 ^ 64 → i + (size + 2) < 2 ^ 64
-    after_fits h l = let w = (begins s i tag size (sym e ∙ h)).there in omega arith
-
-    pub after_size : b ≡ 1 → length s < 2 ^ 64 → size + 2 < 2 ^ 64
-    after_size h l = let w = (begins s i tag size (sym e ∙ h)).there in omega arith
-
-    pub after_here : b ≡ 1 → i + (size + 2) ≡ after_of s i tag size
-    unfolding after_of
-    after_here h = yes_eq _ _ _ _ _ (sym e ∙ h) refl
-
-    pub after_not : (b ≡ 1 → ⊥) → i ≡ after_of s i tag size
-    unfolding after_of
-    after_not h = no_eq _ _ _ _ _ (λ z. h (e ∙ z)) refl
+use Rattle.std.specs.Prelude.{Bool, true, false, ◌&&◌}
+use Rattle.text.proofs.Cases.{both_so}
 
 -- ---- the head of a component
-
-module _ (s : List ℕ) (at tag : ℕ) (e : tag ≡ byte_at s at) where
-  pub short_far : tag % 32 ≡ 31 → 128 ≡ short_of s at
-  unfolding short_of
-  short_far h = yes_eq _ _ _ _ _ (omega arith) refl
-
-  module _ (h : tag % 32 ≡ 31 → ⊥) (b size : ℕ) (f : b ≡ byte_at s (at + 1)) (g : size ≡ b) where
-    near : byte_at s at % 32 ≡ 31 → ⊥
-    near z = h (omega arith)
-
-    module _ (x : ℕ) (d : x ≡ begins_of s at tag size) where
-      same : begins_of s at (byte_at s at) (byte_at s (at + 1)) ≡ x
-      same = ap (λ (z : ℕ). begins_of s at z (byte_at s (at + 1))) (sym e) ∙ ap (begins_of s at tag) (sym (g ∙ f)) ∙ sym d
-
-      pub short_here : x ≡ 1 → size ≡ short_of s at
-      unfolding short_of
-      short_here o = no_eq _ _ _ _ _ near (yes_eq _ _ _ _ _ (same ∙ o) (g ∙ f))
-
-      pub short_none : (x ≡ 1 → ⊥) → 128 ≡ short_of s at
-      unfolding short_of
-      short_none o = no_eq _ _ _ _ _ near (no_eq _ _ _ _ _ (λ z. o (sym same ∙ z)) refl)
 
 record Short (s : List ℕ) (at n : ℕ) : Type 0 where
   pub plain : byte_at s at % 32 ≡ 31 → ⊥
@@ -104,7 +35,7 @@ short_as : (s : List ℕ) (at n : ℕ) → n < 128 → n ≡ short_of s at → S
 unfolding short_of
 short_as s at n h =
     both_eq _ _ (λ (z : ℕ). n ≡ z → Short s at n) _ _ (λ _ f. absurd (omega arith)) λ k.
-    both_eq _ _ (λ (z : ℕ). n ≡ z → Short s at n) _ _
+    both_so _ (λ (z : ℕ). n ≡ z → Short s at n) _ _
     (λ g f. record { plain = k; stands = subst (Begins s at (byte_at s at)) (sym f) (begins s at (byte_at s at) (byte_at s (at + 1)) g) })
     (λ _ f. absurd (omega arith))
 
@@ -122,107 +53,13 @@ module _ (s : List ℕ) (at n : ℕ) (e : n ≡ short_of s at) (h : n < 128) whe
       ap (λ (z : ℕ). Ok (element z (at + 2) (at + 2 + n))) f
       ∙ head_here s at (length s) 11 (byte_at s at) n [] (bytes_of s at (byte_at s at) n k.stands) k.plain h (omega arith)
 
--- ---- numbers
+and_true : (a b : Bool) → (a && b) ≡ true → (a ≡ true) × (b ≡ true)
+and_true true b e = (refl, e)
+and_true false b e = (e, cc)
 
-module _ (s : List ℕ) (i b w : ℕ) (e : b ≡ byte_at s (i + 1)) (f : w ≡ b) where
-  pub number_less : w < 3 → i ≡ number_after s i
-  unfolding number_after
-  number_less h = yes_lt _ _ _ _ _ (omega arith) refl
-
-  pub number_more : 3 ≤ w → 10 < w → i ≡ number_after s i
-  unfolding number_after
-  number_more h g = no_lt _ _ _ _ _ (omega arith) (yes_lt _ _ _ _ _ (omega arith) refl)
-
-  pub number_here : (r : ℕ) → 3 ≤ w → w ≤ 10 → r ≡ after_of s i 129 w → r ≡ number_after s i
-  unfolding number_after
-  number_here r h g q = no_lt _ _ _ _ _ (omega arith) (no_lt _ _ _ _ _ (omega arith) (q ∙ ap (after_of s i 129) (f ∙ e)))
-
-module _ (s : List ℕ) (i next d : ℕ) (e : d ≡ next - i) where
-  pub at_none : d < 2 → absent_number ≡ number_at s i next
-  unfolding number_at
-  at_none h = yes_lt _ _ _ _ _ (omega arith) refl
-
-  pub at_some : (r : Number) → 2 ≤ d → r ≡ party_of s (i + 2) next → r ≡ number_at s i next
-  unfolding number_at
-  at_some r h f = no_lt _ _ _ _ _ (omega arith) f
-
-  module _ (k : ℕ) where
-    pub part_flag : (b r : ℕ) → k ≡ 1 → b ≡ byte_at s (i + 2) → r ≡ flag_part d b 0 8 → r ≡ last_part s i next k
-    unfolding last_part
-    part_flag b r h g f = yes_eq _ _ _ _ _ h (f ∙ rw (g, e))
-
-    pub part_less : (k ≡ 1 → ⊥) → d < 2 → 0 ≡ last_part s i next k
-    unfolding last_part
-    part_less h g = no_eq _ _ _ _ _ h (yes_lt _ _ _ _ _ (omega arith) refl)
-
-    pub part_more : (k ≡ 1 → ⊥) → 2 ≤ d → 64 ≡ last_part s i next k
-    unfolding last_part
-    part_more h g = no_eq _ _ _ _ _ h (no_lt _ _ _ _ _ (omega arith) refl)
-
-    pub seconds_less : (k ≡ 1 → ⊥) → d < 2 → 0 ≡ last_seconds s i next k
-    unfolding last_seconds
-    seconds_less h g = no_eq _ _ _ _ _ h (yes_lt _ _ _ _ _ (omega arith) refl)
-
-    pub seconds_more : (r : ℕ) → (k ≡ 1 → ⊥) → 2 ≤ d → r ≡ seconds_at s (i + 2) → r ≡ last_seconds s i next k
-    unfolding last_seconds
-    seconds_more r h g f = no_eq _ _ _ _ _ h (no_lt _ _ _ _ _ (omega arith) f)
-
-    pub ok_less : (k ≡ 1 → ⊥) → d < 2 → 1 ≡ last_ok s i next k
-    unfolding last_ok
-    ok_less h g = no_eq _ _ _ _ _ h (yes_lt _ _ _ _ _ (omega arith) refl)
-
-    pub ok_more : (r : ℕ) → (k ≡ 1 → ⊥) → 2 ≤ d → r ≡ clock_at s (i + 2) → r ≡ last_ok s i next k
-    unfolding last_ok
-    ok_more r h g f = no_eq _ _ _ _ _ h (no_lt _ _ _ _ _ (omega arith) f)
-
-pub eight_most : (d b r : ℕ) → r ≡ flag_part d b 0 8 → r ≤ 64
-unfolding flag_part
-eight_most d b r e =
-    subst (λ (x : ℕ). x ≤ 64) (sym e) (both_eq _ _ (λ (x : ℕ). x ≤ 64) _ _ (λ _. omega arith) (λ _. both_eq _ _ (λ (x : ℕ). x ≤ 64) _ _ (λ _. omega arith) (λ _. omega arith)))
-
-module _ (s : List ℕ) (i k : ℕ) where
-  pub seconds_flag : (next : ℕ) → k ≡ 1 → 0 ≡ last_seconds s i next k
-  unfolding last_seconds
-  seconds_flag next h = yes_eq _ _ _ _ _ h refl
-
-  pub ok_flag : (next : ℕ) → k ≡ 1 → 1 ≡ last_ok s i next k
-  unfolding last_ok
-  ok_flag next h = yes_eq _ _ _ _ _ h refl
-
-  pub last_flag : (x r : ℕ) → x ≡ 3 → k ≡ 1 → r ≡ after_of s i 130 1 → r ≡ last_after s i k x
-  unfolding last_after
-  last_flag x r h g e = yes_eq _ _ _ _ _ h (yes_eq _ _ _ _ _ g e)
-
-  pub last_time : (x r : ℕ) → x ≡ 3 → (k ≡ 1 → ⊥) → r ≡ after_of s i 130 3 → r ≡ last_after s i k x
-  unfolding last_after
-  last_time x r h g e = yes_eq _ _ _ _ _ h (no_eq _ _ _ _ _ g e)
-
-pub ok_by : (size : ℕ) (n : Number) (r : ℕ) → 2 ≤ size → r ≡ there_of n → r ≡ number_ok size n
-unfolding number_ok
-ok_by size n r h e = no_lt _ _ _ _ _ h e
-
-module _ (s : List ℕ) (i low high b : ℕ) (e : b ≡ begins_of s i 6 7) where
-  pub coded_here : (r : ℕ) → b ≡ 1 → r ≡ listed_at s (i + 2) low high → r ≡ coded_at s i low high
-  unfolding coded_at
-  coded_here r h f = yes_eq _ _ _ _ _ (sym e ∙ h) f
-
-  pub coded_not : (b ≡ 1 → ⊥) → 0 ≡ coded_at s i low high
-  unfolding coded_at
-  coded_not h = no_eq _ _ _ _ _ (λ z. h (e ∙ z)) refl
-
-coded_says : (s : List ℕ) (i low high : ℕ) → coded_at s i low high ≡ 1 → Begins s i 6 7 × (listed_at s (i + 2) low high ≡ 1)
+coded_says : (s : List ℕ) (i low high : ℕ) → coded_at s i low high ≡ true → Begins s i 6 7 × (listed_at s (i + 2) low high ≡ true)
 unfolding coded_at
-coded_says s i low high =
-    both_eq _ _ (λ (z : ℕ). z ≡ 1 → Begins s i 6 7 × (listed_at s (i + 2) low high ≡ 1)) _ _ (λ h e. (begins s i 6 7 h, e)) (λ _ e. absurd (omega arith))
-
-module _ (p : Parted) (k x i : ℕ) where
-  pub carried_other : p ≡ None → None ≡ carried_of p k x i
-  unfolding carried_of
-  carried_other e = ap (λ (y : Parted). carried_of y k x i) (sym e)
-
-  pub carried_usual : (d : Said) (m : Component) → p ≡ Some d → m ≡ made_of k x d i → Some m ≡ carried_of p k x i
-  unfolding carried_of
-  carried_usual d m e f = ap Some f ∙ ap (λ (y : Parted). carried_of y k x i) (sym e)
+coded_says s i low high e = let w = and_true _ _ e in (begins s i 6 7 w.0, w.1)
 
 -- ---- what is said of a whole component
 
@@ -236,7 +73,7 @@ opens : (s : List ℕ) (c : Cursor) (p q end tag size least most : ℕ) → Read
 opens s c p q end tag size least most r b k h l a d e =
     subst (λ (y : ℕ). opened_of (p + 2) y ≡ need_of s c end tag least most) e (need_there s c p end tag least most r size [] (two_bytes s p tag size b) k h l a d)
 
-code_opens : (s : List ℕ) (c : Cursor) (p q end low high : ℕ) → Ready c p → coded_at s p low high ≡ 1 → p + 9 ≤ end → p + 9 ≡ q → opened_of (p + 2) q ≡ code_of s c end low high
+code_opens : (s : List ℕ) (c : Cursor) (p q end low high : ℕ) → Ready c p → coded_at s p low high ≡ true → p + 9 ≤ end → p + 9 ≡ q → opened_of (p + 2) q ≡ code_of s c end low high
 unfolding code_of
 code_opens s c p q end low high r e l m =
     let w = coded_says s p low high e in
@@ -246,13 +83,13 @@ code_opens s c p q end low high r e l m =
 closed_at : (s : List ℕ) (d : Cursor) (end : ℕ) → d ≡ absent_of end → absent_of end ≡ closed_of s d end
 closed_at s d end z = subst (λ (y : Cursor). absent_of end ≡ closed_of s y end) (sym z) (closed_there s (absent_of end) end end (ready_absent end) (omega arith))
 
-module _ (s : List ℕ) (at size b1 c1 : ℕ) (e1 : b1 ≡ begins_of s at 2 1) (o1 : b1 ≡ 1) (oc : c1 ≡ 1) where
+module _ (s : List ℕ) (at size : ℕ) (b1 c1 : Bool) (e1 : b1 ≡ begins_of s at 2 1) (o1 : b1 ≡ true) (oc : c1 ≡ true) where
   named : (end : ℕ) → at + 3 ≤ end → opened_of (at + 2) (at + 3) ≡ need_of s (absent_of at) end 2 1 1
   named end l =
       opens s (absent_of at) at (at + 3) end 2 1 1 1 (ready_absent at) (begins s at 2 1 (sym e1 ∙ o1)) (λ y. omega arith) (omega arith) (omega arith) (omega arith) (omega arith) (omega arith)
 
-  invoke_usual : (b2 item a id : ℕ) (d : Said) → 14 ≤ length s → at ≤ length s - 14 → size ≡ length s - 14 - at → size ≤ 127 → c1 ≡ coded_at s (at + 3) 1 3
-      → b2 ≡ begins_of s (at + 12) 48 size → b2 ≡ 1 → item ≡ byte_at s (at + 11) → a ≡ byte_at s (at + 2) → id ≡ a → SaidAs s (parts_of s (absent_of (at + 14)) (length s) 1 item) (Some d)
+  invoke_usual : (b2 : Bool) (item a id : ℕ) (d : Said) → 14 ≤ length s → at ≤ length s - 14 → size ≡ length s - 14 - at → size ≤ 127 → c1 ≡ coded_at s (at + 3) 1 3
+      → b2 ≡ begins_of s (at + 12) 48 size → b2 ≡ true → item ≡ byte_at s (at + 11) → a ≡ byte_at s (at + 2) → id ≡ a → SaidAs s (parts_of s (absent_of (at + 14)) (length s) 1 item) (Some d)
       → invoke_of s at (length s) ≡ Ok (made_of 1 item d id, length s)
   unfolding opened_of
   invoke_usual b2 item a id d l g z h ec e2 o2 ei ea ed S =
@@ -275,17 +112,16 @@ module _ (s : List ℕ) (at size b1 c1 : ℕ) (e1 : b1 ≡ begins_of s at 2 1) (
       ∙ ap (λ (y : ℕ). Ok (made_of 1 y d (byte_at s (at + 2)), length s)) ei'
       ∙ ap (λ (y : ℕ). Ok (made_of 1 item d y, length s)) (sym (ed ∙ ea))
 
-  pub usual_invoke : (b2 item a id : ℕ) (p : Parted) (r : Form) → 14 ≤ length s → at ≤ length s - 14 → size ≡ length s - 14 - at → size ≤ 127 → c1 ≡ coded_at s (at + 3) 1 3
-      → b2 ≡ begins_of s (at + 12) 48 size → b2 ≡ 1 → item ≡ byte_at s (at + 11) → a ≡ byte_at s (at + 2) → id ≡ a → SaidAs s (parts_of s (absent_of (at + 14)) (length s) 1 item) p
-      → r ≡ carried_of p 1 item id → ReadAs s (invoke_of s at (length s)) r
-  unfolding carried_of
-  usual_invoke b2 item a id None r l g z h ec e2 o2 ei ea ed sp er = subst (ReadAs s (invoke_of s at (length s))) (sym er) tt
-  usual_invoke b2 item a id (Some d) r l g z h ec e2 o2 ei ea ed sp er =
-      subst (ReadAs s (invoke_of s at (length s))) (sym er) (invoke_usual b2 item a id d l g z h ec e2 o2 ei ea ed sp)
+  pub usual_invoke : (b2 : Bool) (item a id : ℕ) (p : Parted) (d : Said) (m : Component) → 14 ≤ length s → at ≤ length s - 14 → size ≡ length s - 14 - at → size ≤ 127 → c1 ≡ coded_at s (at + 3) 1 3
+      → b2 ≡ begins_of s (at + 12) 48 size → b2 ≡ true → item ≡ byte_at s (at + 11) → a ≡ byte_at s (at + 2) → id ≡ a → SaidAs s (parts_of s (absent_of (at + 14)) (length s) 1 item) p → p ≡ Some d
+      → m ≡ made_of 1 item d id → invoke_of s at (length s) ≡ Ok (m, length s)
+  usual_invoke b2 item a id p d m l g z h ec e2 o2 ei ea ed sp ep em =
+      invoke_usual b2 item a id d l g z h ec e2 o2 ei ea ed (subst (SaidAs s (parts_of s (absent_of (at + 14)) (length s) 1 item)) ep sp)
+      ∙ ap (λ (y : Component). Ok (y, length s)) (sym em)
 
-  result_usual : (b2 b3 item a id : ℕ) (d : Said) → 16 ≤ length s → at ≤ length s - 16 → size ≡ length s - 16 - at → size ≤ 116
-      → b2 ≡ begins_of s (at + 3) 48 (size + 11) → b2 ≡ 1 → c1 ≡ coded_at s (at + 5) 1 3
-      → b3 ≡ begins_of s (at + 14) 48 size → b3 ≡ 1 → item ≡ byte_at s (at + 13) → a ≡ byte_at s (at + 2) → id ≡ a → SaidAs s (parts_of s (absent_of (at + 16)) (length s) 2 item) (Some d)
+  result_usual : (b2 b3 : Bool) (item a id : ℕ) (d : Said) → 16 ≤ length s → at ≤ length s - 16 → size ≡ length s - 16 - at → size ≤ 116
+      → b2 ≡ begins_of s (at + 3) 48 (size + 11) → b2 ≡ true → c1 ≡ coded_at s (at + 5) 1 3
+      → b3 ≡ begins_of s (at + 14) 48 size → b3 ≡ true → item ≡ byte_at s (at + 13) → a ≡ byte_at s (at + 2) → id ≡ a → SaidAs s (parts_of s (absent_of (at + 16)) (length s) 2 item) (Some d)
       → result_of s at (length s) ≡ Ok (made_of 2 item d id, length s)
   unfolding opened_of
   result_usual b2 b3 item a id d l g z h e2 o2 ec e3 o3 ei ea ed S =
@@ -312,14 +148,13 @@ module _ (s : List ℕ) (at size b1 c1 : ℕ) (e1 : b1 ≡ begins_of s at 2 1) (
       ∙ ap (λ (y : ℕ). Ok (made_of 2 y d (byte_at s (at + 2)), length s)) ei'
       ∙ ap (λ (y : ℕ). Ok (made_of 2 item d y, length s)) (sym (ed ∙ ea))
 
-  pub usual_result : (b2 b3 item a id : ℕ) (p : Parted) (r : Form) → 16 ≤ length s → at ≤ length s - 16 → size ≡ length s - 16 - at → size ≤ 116
-      → b2 ≡ begins_of s (at + 3) 48 (size + 11) → b2 ≡ 1 → c1 ≡ coded_at s (at + 5) 1 3
-      → b3 ≡ begins_of s (at + 14) 48 size → b3 ≡ 1 → item ≡ byte_at s (at + 13) → a ≡ byte_at s (at + 2) → id ≡ a → SaidAs s (parts_of s (absent_of (at + 16)) (length s) 2 item) p
-      → r ≡ carried_of p 2 item id → ReadAs s (result_of s at (length s)) r
-  unfolding carried_of
-  usual_result b2 b3 item a id None r l g z h e2 o2 ec e3 o3 ei ea ed sp er = subst (ReadAs s (result_of s at (length s))) (sym er) tt
-  usual_result b2 b3 item a id (Some d) r l g z h e2 o2 ec e3 o3 ei ea ed sp er =
-      subst (ReadAs s (result_of s at (length s))) (sym er) (result_usual b2 b3 item a id d l g z h e2 o2 ec e3 o3 ei ea ed sp)
+  pub usual_result : (b2 b3 : Bool) (item a id : ℕ) (p : Parted) (d : Said) (m : Component) → 16 ≤ length s → at ≤ length s - 16 → size ≡ length s - 16 - at → size ≤ 116
+      → b2 ≡ begins_of s (at + 3) 48 (size + 11) → b2 ≡ true → c1 ≡ coded_at s (at + 5) 1 3
+      → b3 ≡ begins_of s (at + 14) 48 size → b3 ≡ true → item ≡ byte_at s (at + 13) → a ≡ byte_at s (at + 2) → id ≡ a → SaidAs s (parts_of s (absent_of (at + 16)) (length s) 2 item) p → p ≡ Some d
+      → m ≡ made_of 2 item d id → result_of s at (length s) ≡ Ok (m, length s)
+  usual_result b2 b3 item a id p d m l g z h e2 o2 ec e3 o3 ei ea ed sp ep em =
+      result_usual b2 b3 item a id d l g z h e2 o2 ec e3 o3 ei ea ed (subst (SaidAs s (parts_of s (absent_of (at + 16)) (length s) 2 item)) ep sp)
+      ∙ ap (λ (y : Component). Ok (y, length s)) (sym em)
 
   pub usual_error : (item a id : ℕ) (m : Component) → 12 ≤ length s → length s - 12 ≡ at → c1 ≡ coded_at s (at + 3) 4 12 → item ≡ byte_at s (at + 11) → a ≡ byte_at s (at + 2) → id ≡ a
       → m ≡ bare_of 3 item id → error_of s at (length s) ≡ Ok (m, length s)
@@ -338,6 +173,3 @@ module _ (s : List ℕ) (at size b1 c1 : ℕ) (e1 : b1 ≡ begins_of s at 2 1) (
       ∙ ap (λ (y : Component). Ok (y, length s)) (sym em)
 
 -- ---- each first in the usual form
-
-pub usual_read : (s : List ℕ) (a : Answer) (q : Form) (m : Component) → ReadAs s a q → q ≡ Some m → Ok (m, length s) ≡ a
-usual_read s a q m h e = sym (subst (ReadAs s a) e h)

@@ -22,23 +22,27 @@ use Rattle.wire.proofs.Goods.{Good, argument_inv, result_inv, parts_short}
 use Rattle.wire.proofs.Forms.{Says, invoke_other, invoke_called, result_called, result_other, off16, off32}
 use Rattle.wire.specs.Answers.{Answer}
 use Rattle.std.specs.Prelude.{Ok}
+use Rattle.std.specs.Prelude.{Bool, true}
+use Rattle.text.proofs.Cases.{yes_so}
+use Rattle.std.specs.Cmp.Derive.{both_true}
+use borrow.Author.Tests.{le-leb}
 
 -- ---- op and err
 
-pub good_opened : (i m : ℕ) (f : ℕ → ℕ → ℕ → ℕ) (low high from : ℕ) → (i ≡ 0 → ⊥) → f i low high ≡ 1 → opened_of i m ≡ checked_of (f (opened_of i m).body low high) from (opened_of i m)
+pub good_opened : (i m : ℕ) (f : ℕ → ℕ → ℕ → Bool) (low high from : ℕ) → (i ≡ 0 → ⊥) → f i low high ≡ true → opened_of i m ≡ checked_of (f (opened_of i m).body low high) from (opened_of i m)
 unfolding checked_of opened_of
-good_opened i m f low high from h e = no_eq i 0 _ _ _ h (yes_eq _ 1 _ _ _ e refl)
+good_opened i m f low high from h e = no_eq i 0 _ _ _ h (yes_so _ _ _ _ e refl)
 
 module _ (s : List ℕ) where
-  module_back : (i x : ℕ) → Holds s i (0 ∷ 17 ∷ 133 ∷ 96 ∷ 3 ∷ 1 ∷ x ∷ []) → module_at s i ≡ 1
+  module_back : (i x : ℕ) → Holds s i (0 ∷ 17 ∷ 133 ∷ 96 ∷ 3 ∷ 1 ∷ x ∷ []) → module_at s i ≡ true
   unfolding module_at module_by if_eq if_so
   module_back i x h = rw (holds_first s i 0 (17 ∷ 133 ∷ 96 ∷ 3 ∷ 1 ∷ x ∷ []) h, h 1 (omega arith), h 2 (omega arith), h 3 (omega arith), h 4 (omega arith), h 5 (omega arith))
 
-  listed_back : (i x low high : ℕ) → Holds s i (0 ∷ 17 ∷ 133 ∷ 96 ∷ 3 ∷ 1 ∷ x ∷ []) → low ≤ x → x ≤ high → listed_at s i low high ≡ 1
+  listed_back : (i x low high : ℕ) → Holds s i (0 ∷ 17 ∷ 133 ∷ 96 ∷ 3 ∷ 1 ∷ x ∷ []) → low ≤ x → x ≤ high → listed_at s i low high ≡ true
   unfolding listed_at listed_of
   listed_back i x low high h l g =
       let e : byte_at s (i + 6) ≡ x = h 6 (omega arith) in
-      sym (yes_eq _ _ _ _ _ (module_back i x h) (no_lt _ _ _ _ _ (omega arith) (no_lt _ _ _ _ _ (omega arith) refl)))
+      both_true (module_back i x h) (both_true (le-leb low (byte_at s (i + 6)) (omega arith)) (le-leb (byte_at s (i + 6)) high (omega arith)))
 
   -- what is read of an operation or error: where its contents begin, and its number
   code_back : (c : Cursor) (p end x low high : ℕ) → Ready c p → Holds s p (code_text x) → low ≤ x → x ≤ high → p + 9 ≤ end
@@ -84,7 +88,7 @@ number_there_lem (suc (suc b)) n h z = absurd (omega arith)
 
 -- the number goes where its part says
 made_calling : (c : Component) (k x i end : ℕ) (d : Said) → Good c → c.kind ≡ k → c.item ≡ x → c.id ≡ i → c.parts / 32 % 2 ≡ 0 → Says d end c c.calling → made_of k x d i ≡ c
-unfolding made_of number_if
+unfolding made_of number_if if_eq
 made_calling c k x i end d g a b e z w =
     sym (built_eq (made_of k x d i) c.kind c.item c.parts c.calling c.called c.duration c.id
     (sym a) (sym b) w.parts_is (ap (λ (p : ℕ). if_eq (p / 16 % 2) 1 d.number absent_number) w.parts_is ∙ ap (λ (n : Number). if_eq (c.parts / 16 % 2) 1 n absent_number) w.number_is ∙ number_there_lem (c.parts / 16 % 2) c.calling (omega arith) g.calling_none)
@@ -93,7 +97,7 @@ made_calling c k x i end d g a b e z w =
     ∙ built_eq c c.kind c.item c.parts c.calling c.called c.duration c.id refl refl refl refl refl refl refl
 
 made_called : (c : Component) (k x i end : ℕ) (d : Said) → Good c → c.kind ≡ k → c.item ≡ x → c.id ≡ i → c.parts / 16 % 2 ≡ 0 → Says d end c c.called → made_of k x d i ≡ c
-unfolding made_of number_if
+unfolding made_of number_if if_eq
 made_called c k x i end d g a b e z w =
     sym (built_eq (made_of k x d i) c.kind c.item c.parts c.calling c.called c.duration c.id
     (sym a) (sym b) w.parts_is

@@ -20,6 +20,10 @@ use Rattle.wire.specs.declared.Said.{Said}
 use Rattle.wire.proofs.Pieces.{number_length}
 use Rattle.wire.proofs.Back.{Holds, holds_first, holds_after, Ready, ready_opened, ready_absent, ready_move, From, may_there, may_from, rest_there}
 use Rattle.wire.proofs.Digited.{Fine, party_back, there_back}
+use Rattle.std.specs.Prelude.{Bool, true}
+use Rattle.text.proofs.Cases.{yes_so}
+use Rattle.std.specs.Cmp.Derive.{both_true}
+use borrow.Author.Tests.{lt-ltb}
 
 -- ---- the elements, each by itself: c is before it, and goes on after it
 
@@ -65,14 +69,14 @@ party_opened : (s : List ℕ) (i m : ℕ) (n : Number) → (i ≡ 0 → ⊥) →
 unfolding party_at opened_of
 party_opened s i m n h e = sym (no_eq i 0 _ _ _ h refl) ∙ e
 
-checked_opened : (ok from i m : ℕ) → (i ≡ 0 → ⊥) → ok ≡ 1 → checked_of ok from (opened_of i m) ≡ opened_of i m
+checked_opened : (ok : Bool) (from i m : ℕ) → (i ≡ 0 → ⊥) → ok ≡ true → checked_of ok from (opened_of i m) ≡ opened_of i m
 unfolding checked_of opened_of
-checked_opened ok from i m h e = sym (no_eq i 0 _ _ _ h (yes_eq ok 1 _ _ _ e refl))
+checked_opened ok from i m h e = sym (no_eq i 0 _ _ _ h (yes_so ok _ _ _ e refl))
 
-pub numbered_some : (s : List ℕ) (from i m q : ℕ) (n : Number) → (i ≡ 0 → ⊥) → m ≡ q → party_of s i m ≡ n → there_of n ≡ 1 → Numbered s from (opened_of i m) q n
+pub numbered_some : (s : List ℕ) (from i m q : ℕ) (n : Number) → (i ≡ 0 → ⊥) → m ≡ q → party_of s i m ≡ n → there_of n ≡ true → Numbered s from (opened_of i m) q n
 numbered_some s from i m q n h e f t =
     let w = party_opened s i m n h f in
-    let k : there_of (party_at s (opened_of i m)) ≡ 1 = ap there_of w ∙ t in
+    let k : there_of (party_at s (opened_of i m)) ≡ true = ap there_of w ∙ t in
     record {
       ready = subst (λ (x : Cursor). Ready x q) (sym (checked_opened (there_of (party_at s (opened_of i m))) from i m h k)) (ready_move (opened_of i m) m q e (ready_opened i m));
       is = w;
@@ -126,9 +130,9 @@ module _ (s : List ℕ) (c : Cursor) (p end k x : ℕ) (r : Ready c p) where
         seconds_is = refl;
       })
 
-clock_says : (s : List ℕ) (i t : ℕ) → byte_at s (i + 1) ≡ t / 60 % 60 → byte_at s (i + 2) ≡ t % 60 → clock_at s i ≡ 1
+clock_says : (s : List ℕ) (i t : ℕ) → byte_at s (i + 1) ≡ t / 60 % 60 → byte_at s (i + 2) ≡ t % 60 → clock_at s i ≡ true
 unfolding clock_at clock_of
-clock_says s i t b1 b2 = sym (yes_lt _ _ _ _ _ (omega arith) (yes_lt _ _ _ _ _ (omega arith) refl))
+clock_says s i t b1 b2 = both_true (lt-ltb (byte_at s (i + 1)) 60 (omega arith)) (lt-ltb (byte_at s (i + 2)) 60 (omega arith))
 
 seconds_say : (s : List ℕ) (i t : ℕ) → t ≤ 921599 → byte_at s i ≡ t / 3600 % 256 → byte_at s (i + 1) ≡ t / 60 % 60 → byte_at s (i + 2) ≡ t % 60 → seconds_at s i ≡ t
 unfolding seconds_at
@@ -137,7 +141,7 @@ seconds_say s i t l b0 b1 b2 = rw (b0, b1, b2) (omega arith)
 abbrev when_of : ℕ → List ℕ
 when_of t = t / 3600 % 256 ∷ t / 60 % 60 ∷ t % 60 ∷ []
 
-pub lasted_opened : (s : List ℕ) (from i m t : ℕ) → (i ≡ 0 → ⊥) → clock_at s i ≡ 1 → seconds_at s i ≡ t
+pub lasted_opened : (s : List ℕ) (from i m t : ℕ) → (i ≡ 0 → ⊥) → clock_at s i ≡ true → seconds_at s i ≡ t
     → Lasted (if_eq (opened_of i m).body 0 (record { cursor = opened_of i m; part = 0; duration = 0 })
     (record { cursor = checked_of (clock_at s (opened_of i m).body) from (opened_of i m); part = 64; duration = seconds_at s (opened_of i m).body })) m 64 t
 unfolding opened_of

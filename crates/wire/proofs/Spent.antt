@@ -24,6 +24,10 @@ use Rattle.wire.proofs.Digited.{hundred, Fine}
 use Rattle.wire.proofs.Bounds.{Got, took, none, may_got, checked_live, rest_ends}
 use Rattle.wire.specs.Answers.{Digits}
 use Rattle.std.specs.Prelude.{Some, None}
+use Rattle.std.specs.Prelude.{Bool, true, eqb}
+use Rattle.text.proofs.Cases.{yes_so, both_so}
+use Rattle.std.proofs.lemmas.Bool.Decides.{nat_tests}
+use borrow.Author.Tests.{eq-eqb}
 
 -- of a list all of whose elements are bytes
 abbrev pub Bytes : List ℕ → Type 0
@@ -80,11 +84,11 @@ even_octets m nature v h i j e l g _ =
     let f : v < 10 ^ ((nature + 2 * m) % 128) = subst (λ (k : ℕ). v < 10 ^ k) (sym z) w in
     (omega arith, record { byte = omega arith; some = omega arith; most = omega arith; fits = f })
 
-counted_octets : (m odd nature v : ℕ) → m ≤ 8 → nature % 128 ≡ 0 → nature ≤ 128 → v < 100 ^ m → Octets m (counted_of m odd nature v)
+counted_octets : (m : ℕ) (odd : Bool) (nature v : ℕ) → m ≤ 8 → nature % 128 ≡ 0 → nature ≤ 128 → v < 100 ^ m → Octets m (counted_of m odd nature v)
 unfolding counted_of
 counted_octets m odd nature v h e l g =
     both_eq _ _ (Octets m) _ _ (λ _. none_octets m) λ i.
-    both_eq _ _ (Octets m) _ _
+    both_so odd (Octets m) _ _
     (λ _. both_eq _ _ (Octets m) _ _ (λ _. odd_octets m nature v h i e l g) (λ _. none_octets m))
     (λ _. both_eq _ _ (Octets m) _ _ (λ _. none_octets m) (λ j. even_octets m nature v h i j e l g))
 
@@ -92,8 +96,8 @@ natured_octets : (m first second v : ℕ) → m ≤ 8 → v < 100 ^ m → Octets
 unfolding natured_of
 natured_octets m first second v h g =
     both_eq _ _ (Octets m) _ _
-    (λ _. both_eq _ _ (Octets m) _ _ (λ _. counted_octets m (first / 128) 0 v h refl (omega arith) g)
-    (λ _. both_eq _ _ (Octets m) _ _ (λ _. counted_octets m (first / 128) 128 v h refl (omega arith) g) (λ _. none_octets m)))
+    (λ _. both_eq _ _ (Octets m) _ _ (λ _. counted_octets m (eqb (first / 128) 1) 0 v h refl (omega arith) g)
+    (λ _. both_eq _ _ (Octets m) _ _ (λ _. counted_octets m (eqb (first / 128) 1) 128 v h refl (omega arith) g) (λ _. none_octets m)))
     (λ _. none_octets m)
 
 digited_octets : (m first second : ℕ) (d : Digits) → m ≤ 8 → Below m d → Octets m (digited_of m first second d)
@@ -212,14 +216,11 @@ five : (c e : Cursor) (end : ℕ) → Got c e end 3 3 → (e.body ≡ 0 → ⊥)
 five c e end (took t) h = let x = t.begins in let y = t.least_is in omega arith
 five c e end (none z x y) h = absurd (h x)
 
-clock_inv : (m sec : ℕ) → clock_of m sec ≡ 1 → (m < 60) × (sec < 60)
+clock_inv : (m sec : ℕ) → clock_of m sec ≡ true → (m < 60) × (sec < 60)
 unfolding clock_of
-clock_inv m sec =
-    both_lt m 60 (λ (z : ℕ). z ≡ 1 → (m < 60) × (sec < 60)) _ _
-    (λ h. both_lt sec 60 (λ (z : ℕ). z ≡ 1 → (m < 60) × (sec < 60)) _ _ (λ g _. (h, g)) (λ _ e. absurd (omega arith)))
-    (λ _ e. absurd (omega arith))
+clock_inv m sec e = (grind (arith, nat_tests), grind (arith, nat_tests))
 
-seconds_most : (s : List ℕ) (i : ℕ) → Bytes s → clock_at s i ≡ 1 → seconds_at s i ≤ 921599
+seconds_most : (s : List ℕ) (i : ℕ) → Bytes s → clock_at s i ≡ true → seconds_at s i ≤ 921599
 unfolding clock_at seconds_at
 seconds_most s i b e =
     let w = clock_inv _ _ e in
@@ -352,9 +353,9 @@ number_once zero n m h e = let y = party_there zero m (omega arith) in omega ari
 number_once (suc zero) n m h e = subst (λ (y : Number). length (party_text 1 y) ≤ 1 * (2 + length (number_text n))) (sym (e refl)) (party_there 1 n (omega arith))
 number_once (suc (suc w)) n m h e = absurd (omega arith)
 
-pub number_is : (b : ℕ) (n : Number) → b ≡ 1 → number_if b n ≡ n
+pub number_is : (b : ℕ) (n : Number) → b ≡ 1 → number_if (eqb b 1) n ≡ n
 unfolding number_if
-number_is b n e = sym (yes_eq b 1 _ _ _ e refl)
+number_is b n e = sym (yes_so (eqb b 1) _ _ _ (eq-eqb b 1 e) refl)
 
 -- which of the parts 1, 2, 4, 8, 16, 32, 64 there are
 record Bits (p a b q l w v y : ℕ) : Type 0 where
@@ -454,10 +455,10 @@ module _ (d : Said) (a b q l w v y : ℕ) (bits : Bits d.parts a b q l w v y) wh
   abbrev m : ℕ
   m = 2 + length (number_text d.number)
 
-  party_most : (b u : ℕ) → b < 2 → b ≡ u → length (party_text b (number_if b d.number)) ≤ u * m
+  party_most : (b u : ℕ) → b < 2 → b ≡ u → length (party_text b (number_if (eqb b 1) d.number)) ≤ u * m
   party_most b u h e =
-      subst (λ (z : ℕ). length (party_text b (number_if b d.number)) ≤ z * m) e
-      (number_once b d.number (number_if b d.number) h (number_is b d.number))
+      subst (λ (z : ℕ). length (party_text b (number_if (eqb b 1) d.number)) ≤ z * m) e
+      (number_once b d.number (number_if (eqb b 1) d.number) h (number_is b d.number))
 
   made_bytes : (k x i : ℕ) → length (parts_text (made_of k x d i)) ≤ a * 3 + b * 3 + w * m + v * m + l * 3 + y * 5
   unfolding made_of

@@ -19,6 +19,9 @@ use Rattle.wire.specs.declared.Number.{Number}
 use Rattle.wire.specs.declared.Said.{Said}
 use Rattle.wire.proofs.Back.{Holds, Ready, ready_opened, ready_absent, ready_move, From, may_there, may_from}
 use Rattle.wire.proofs.Seats.{Flagged, Numbered, numbered_none, numbered_some, Lasted, lasted_opened, lasted_absent, seq_back}
+use Rattle.std.specs.Prelude.{Bool, true}
+use Rattle.text.proofs.Cases.{both_so}
+use Rattle.std.proofs.lemmas.Bool.Decides.{nat_tests}
 
 -- ---- an element in the usual form
 
@@ -27,13 +30,9 @@ pub record Begins (s : List ℕ) (i tag size : ℕ) : Type 0 where
   pub tag_is : byte_at s i ≡ tag
   pub size_is : byte_at s (i + 1) ≡ size
 
-pub begins : (s : List ℕ) (i tag size : ℕ) → begins_of s i tag size ≡ 1 → Begins s i tag size
+pub begins : (s : List ℕ) (i tag size : ℕ) → begins_of s i tag size ≡ true → Begins s i tag size
 unfolding begins_of
-begins s i tag size =
-    both_lt _ _ (λ (z : ℕ). z ≡ 1 → Begins s i tag size) _ _ (λ _ e. absurd (omega arith)) λ h.
-    both_eq _ _ (λ (z : ℕ). z ≡ 1 → Begins s i tag size) _ _
-    (λ g. both_eq _ _ (λ (z : ℕ). z ≡ 1 → Begins s i tag size) 1 0 (λ f _. record { there = h; tag_is = g; size_is = f }) (λ _ e. absurd (omega arith)))
-    (λ _ e. absurd (omega arith))
+begins s i tag size e = record { there = grind (arith, nat_tests); tag_is = grind (arith, nat_tests); size_is = grind (arith, nat_tests) }
 
 -- it stands there, or the place is the same
 data Stands (s : List ℕ) (i tag size r : ℕ) : Type 0 where
@@ -43,7 +42,7 @@ data Stands (s : List ℕ) (i tag size r : ℕ) : Type 0 where
 stands : (s : List ℕ) (i tag size r : ℕ) → r ≡ after_of s i tag size → Stands s i tag size r
 unfolding after_of
 stands s i tag size r =
-    both_eq (begins_of s i tag size) 1 (λ (z : ℕ). r ≡ z → Stands s i tag size r) _ _ (λ h e. here e (begins s i tag size h)) (λ _ e. other e)
+    both_so (begins_of s i tag size) (λ (z : ℕ). r ≡ z → Stands s i tag size r) _ _ (λ h e. here e (begins s i tag size h)) (λ _ e. other e)
 
 -- its first two bytes
 two_bytes : (s : List ℕ) (i a b : ℕ) → byte_at s i ≡ a → byte_at s (i + 1) ≡ b → Holds s i (a ∷ b ∷ [])
@@ -113,11 +112,11 @@ number_there_lem : (s : List ℕ) (f e m : ℕ) → 3 ≤ m → e ≡ f + (m + 2
 unfolding number_at
 number_there_lem s f e m h q = no_lt _ _ _ _ _ (omega arith) refl
 
-ok_there : (size : ℕ) (n : Number) → 2 ≤ size → number_ok size n ≡ 1 → there_of n ≡ 1
+ok_there : (size : ℕ) (n : Number) → 2 ≤ size → number_ok size n ≡ true → there_of n ≡ true
 unfolding number_ok
 ok_there size n h e = no_lt _ _ _ _ _ h refl ∙ e
 
-numbered : (s : List ℕ) (c : Cursor) (f end from e : ℕ) → Ready c f → end ≡ length s → Numbers s f e → number_ok (e - f) (number_at s f e) ≡ 1 → From s e end 130
+numbered : (s : List ℕ) (c : Cursor) (f end from e : ℕ) → Ready c f → end ≡ length s → Numbers s f e → number_ok (e - f) (number_at s f e) ≡ true → From s e end 130
     → Numbered s from (may_of s c end 129 3 10) e (number_at s f e)
 numbered s c f end from e r z (some m h g q b) k w =
     let t = b.there in
@@ -158,7 +157,7 @@ module _ (s : List ℕ) (e end : ℕ) where
   unfolding last_seconds
   seconds_duration k h g = no_eq _ _ _ _ _ h (no_lt _ _ _ _ _ (omega arith) refl)
 
-  clock_there : (k : ℕ) → (k ≡ 1 → ⊥) → e + 5 ≡ end → last_ok s e end k ≡ 1 → clock_at s (e + 2) ≡ 1
+  clock_there : (k : ℕ) → (k ≡ 1 → ⊥) → e + 5 ≡ end → last_ok s e end k ≡ true → clock_at s (e + 2) ≡ true
   unfolding last_ok
   clock_there k h g q = no_eq _ _ _ _ _ h (no_lt _ _ _ _ _ (omega arith) refl) ∙ q
 
@@ -185,7 +184,7 @@ module _ (s : List ℕ) (c : Cursor) (e end k x : ℕ) (r : Ready c e) (z : end 
       (record { cursor = y; part = 0; duration = 0 })
       (record { cursor = checked_of (clock_at s y.body) c.at y; part = 64; duration = seconds_at s y.body })
 
-  duration_by : (k ≡ 1 → ⊥) → last_ok s e end k ≡ 1 → Stands s e 130 3 end → Lasted (said_by (may_of s c end 130 3 3)) end (last_part s e end k) (last_seconds s e end k)
+  duration_by : (k ≡ 1 → ⊥) → last_ok s e end k ≡ true → Stands s e 130 3 end → Lasted (said_by (may_of s c end 130 3 3)) end (last_part s e end k) (last_seconds s e end k)
   duration_by g o (here q b) =
       let t = b.there in
       let m : e + 2 + 3 ≡ end = omega arith in
@@ -200,7 +199,7 @@ module _ (s : List ℕ) (c : Cursor) (e end k x : ℕ) (r : Ready c e) (z : end 
       lasted_is _ end 0 _ 0 _ (part_none s e end k (sym q)) (seconds_none s e end k (sym q))
       (subst (λ (y : Cursor). Lasted (said_by y) end 0 0) (may_from s c e end 130 3 3 r 131 h (omega arith)) (lasted_absent s c.at e end (sym q)))
 
-  duration_last : x ≡ 3 → (k ≡ 1 → ⊥) → last_ok s e end k ≡ 1 → Stands s e 130 3 end → Lasted (last_of s c end k x) end (last_part s e end k) (last_seconds s e end k)
+  duration_last : x ≡ 3 → (k ≡ 1 → ⊥) → last_ok s e end k ≡ true → Stands s e 130 3 end → Lasted (last_of s c end k x) end (last_part s e end k) (last_seconds s e end k)
   unfolding last_of duration_of
   duration_last h g o t =
       subst (λ (l : Last). Lasted l end (last_part s e end k) (last_seconds s e end k)) (yes_eq x 3 _ _ _ h (no_eq k 1 _ _ _ g refl)) (duration_by g o t)
@@ -231,7 +230,7 @@ from_number : (s : List ℕ) (f e end : ℕ) → Numbers s f e → From s e end 
 from_number s f e end (some m h g q b) w l = let t = b.tag_is in omega arith
 from_number s f e end (none q) w l = let v = subst (λ (y : ℕ). From s y end 130) q w l in omega arith
 
-lasted_by : (s : List ℕ) (c : Cursor) (e end k x : ℕ) → Ready c e → end ≡ length s → last_ok s e end k ≡ 1 → Thirds s e end k x → Lasted (last_of s c end k x) end (last_part s e end k) (last_seconds s e end k)
+lasted_by : (s : List ℕ) (c : Cursor) (e end k x : ℕ) → Ready c e → end ≡ length s → last_ok s e end k ≡ true → Thirds s e end k x → Lasted (last_of s c end k x) end (last_part s e end k) (last_seconds s e end k)
 lasted_by s c e end k x r z o (no_third h g) = none_last s c e end k x r z h g
 lasted_by s c e end k x r z o (a_flag h g t) = partial_last s c e end k x r z h g t
 lasted_by s c e end k x r z o (a_time h g t) = duration_last s c e end k x r z h g o t
@@ -239,15 +238,15 @@ lasted_by s c e end k x r z o (a_time h g t) = duration_last s c e end k x r z h
 -- ---- a SEQUENCE
 
 module _ (s : List ℕ) (i k x f e : ℕ) (n : Number) where
-  pub usual_said : (z size ok ok2 : ℕ) (r : Said) → f ≡ after_of s i 128 1 → e ≡ number_after s f → z ≡ last_after s e k x → z ≡ length s → n ≡ number_at s f e → size ≡ e - f → ok ≡ number_ok size n → ok ≡ 1
-      → ok2 ≡ last_ok s e z k → ok2 ≡ 1 → r ≡ said_of s i f e n k x → parts_of s (absent_of i) (length s) k x ≡ r
+  pub usual_said : (z size : ℕ) (ok ok2 : Bool) (r : Said) → f ≡ after_of s i 128 1 → e ≡ number_after s f → z ≡ last_after s e k x → z ≡ length s → n ≡ number_at s f e → size ≡ e - f → ok ≡ number_ok size n → ok ≡ true
+      → ok2 ≡ last_ok s e z k → ok2 ≡ true → r ≡ said_of s i f e n k x → parts_of s (absent_of i) (length s) k x ≡ r
   unfolding said_of
   usual_said z size ok ok2 r ef ee ez zl en es eo o1 e2 o2 er =
       let T = thirds s e (length s) k x (sym zl ∙ ez) in
       let W = from_third s e (length s) k x T in
       let N = numbers s f e ee in
-      let G : number_ok (e - f) (number_at s f e) ≡ 1 = ap (λ (y : ℕ). number_ok y (number_at s f e)) (sym es) ∙ ap (number_ok size) (sym en) ∙ sym eo ∙ o1 in
-      let O : last_ok s e (length s) k ≡ 1 = ap (λ (y : ℕ). last_ok s e y k) (sym zl) ∙ sym e2 ∙ o2 in
+      let G : number_ok (e - f) (number_at s f e) ≡ true = ap (λ (y : ℕ). number_ok y (number_at s f e)) (sym es) ∙ ap (number_ok size) (sym en) ∙ sym eo ∙ o1 in
+      let O : last_ok s e (length s) k ≡ true = ap (λ (y : ℕ). last_ok s e y k) (sym zl) ∙ sym e2 ∙ o2 in
       let c : Cursor = absent_of i in
       let A = flagged s c i (length s) f 128 (ready_absent i) refl (λ y. omega arith) (stands s i 128 1 f ef) (from_number s f e (length s) N W) in
       let d : Cursor = may_of s c (length s) 128 1 1 in

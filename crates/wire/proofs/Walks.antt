@@ -156,9 +156,6 @@ module _ (s : List ℕ) (at place count : ℕ) (t : Going s at place count) wher
             few = omega arith;
           }
 
-      pub going_fits : p.1 < 2 ^ 64 → count + 1 < 2 ^ 64
-      going_fits g = let l = read_on s place p.1 p.0 a e f in let k = t.few in omega arith
-
       pub going_less : length s - p.1 < length s - place
       going_less = let l = read_on s place p.1 p.0 a e f in omega arith
 
@@ -203,40 +200,6 @@ module _ (s : List ℕ) (at : ℕ) where
 -- ---- the parameter's own bytes
 
 module _ (s : List ℕ) where
-  pub frame_none : length s < 2 → Err (refusal 11 0) ≡ framed_of s
-  unfolding framed_of
-  frame_none h = yes_lt _ _ _ _ _ h refl
-
-  module _ (b w : ℕ) (h : 2 ≤ length s) (e : b ≡ byte_at s 1) (f : w ≡ b) where
-    pub frame_less : length s < 2 + w → Err (refusal 11 0) ≡ framed_of s
-    unfolding framed_of
-    frame_less g = no_lt _ _ _ _ _ h (yes_lt _ _ _ _ _ (omega arith) refl)
-
-    module _ (i : 2 + w ≤ length s) where
-      pub frame_more : 2 + w < length s → Err (refusal 12 0) ≡ framed_of s
-      unfolding framed_of
-      frame_more g = no_lt _ _ _ _ _ h (no_lt _ _ _ _ _ (omega arith) (yes_lt _ _ _ _ _ (omega arith) refl))
-
-      module _ (j : length s ≤ 2 + w) where
-        pub frame_empty : 2 + w ≡ 2 → Err (refusal 12 0) ≡ framed_of s
-        unfolding framed_of
-        frame_empty g = no_lt _ _ _ _ _ h (no_lt _ _ _ _ _ (omega arith) (no_lt _ _ _ _ _ (omega arith) (yes_eq _ _ _ _ _ (omega arith) refl)))
-
-        module _ (k : 2 + w ≡ 2 → ⊥) where
-          inner : (r : Frame) → r ≡ if_eq (byte_at s 0) 50 (if_eq (byte_at s 2) 145 (Ok tt) (Err (refusal 14 2))) (Err (refusal 14 0)) → r ≡ framed_of s
-          unfolding framed_of
-          inner r q = no_lt _ _ _ _ _ h (no_lt _ _ _ _ _ (omega arith) (no_lt _ _ _ _ _ (omega arith) (no_eq _ _ _ _ _ (λ z. k (omega arith)) q)))
-
-          pub frame_other : (byte_at s 0 ≡ 50 → ⊥) → Err (refusal 14 0) ≡ framed_of s
-          frame_other g = inner (Err (refusal 14 0)) (no_eq _ _ _ _ _ g refl)
-
-          module _ (m : byte_at s 0 ≡ 50) where
-            pub frame_profile : (byte_at s 2 ≡ 145 → ⊥) → Err (refusal 14 2) ≡ framed_of s
-            frame_profile g = inner (Err (refusal 14 2)) (yes_eq _ _ _ _ _ m (no_eq _ _ _ _ _ g refl))
-
-            pub frame_good : byte_at s 2 ≡ 145 → Ok tt ≡ framed_of s
-            frame_good g = inner (Ok tt) (yes_eq _ _ _ _ _ m (yes_eq _ _ _ _ _ g refl))
-
   -- then the parameter is what its components say, else it is refused
   pub good_walk : framed_of s ≡ Ok tt → parameter_of s ≡ walk_of s 3
   unfolding parameter_of held_in

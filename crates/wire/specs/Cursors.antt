@@ -1,7 +1,7 @@
 -- A cursor over the elements of one holder, up to the holder's `end`. Once stopped it stays.
 -- Assumes nothing.
-use Rattle.std.specs.Prelude.{List, ℕ, ◌-◌, Ok, Err}
-use Rattle.text.specs.Choose.{if_lt, if_le, if_eq}
+use Rattle.std.specs.Prelude.{List, ℕ, ◌-◌, Bool, Ok, Err}
+use Rattle.text.specs.Choose.{if_so, if_lt, if_le, if_eq}
 use Rattle.wire.specs.Bytes.{byte_at}
 use Rattle.wire.specs.Heads.{bad_length, head_of}
 use Rattle.wire.specs.Elements.{not_ours, sequence_of}
@@ -57,8 +57,8 @@ unfoldable pub closed_of : List ℕ → Cursor → ℕ → Cursor
 closed_of s c end = if_eq c.number 0 (if_le end c.at c (extra_of (head_of s c.at end bad_length) c.at)) c
 
 -- the contents of the element last read, which began at `from`, must be ok
-unfoldable pub checked_of : ℕ → ℕ → Cursor → Cursor
-checked_of ok from c = if_eq c.body 0 c (if_eq ok 1 c (stopped_of not_ours from))
+unfoldable pub checked_of : Bool → ℕ → Cursor → Cursor
+checked_of ok from c = if_eq c.body 0 c (if_so ok c (stopped_of not_ours from))
 
 unfoldable pub seen_of : Seen → Cursor
 seen_of (Ok next) = absent_of next

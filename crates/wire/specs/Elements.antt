@@ -1,7 +1,7 @@
 -- An element with what it holds, and elements one after the other.
 -- Assumes nothing.
-use Rattle.std.specs.Prelude.{List, ℕ, zero, suc, ◌-◌, ◌*◌, ◌/◌, ◌%◌, Ok, Err}
-use Rattle.text.specs.Choose.{if_lt, if_le, if_eq}
+use Rattle.std.specs.Prelude.{List, ℕ, zero, suc, ◌-◌, ◌*◌, ◌/◌, ◌%◌, Bool, ◌&&◌, eqb, ltb, Ok, Err}
+use Rattle.text.specs.Choose.{if_so, if_le, if_eq}
 use Rattle.wire.specs.Heads.{bad_length, head_of}
 use Rattle.wire.specs.Answers.{Head, Seen, refusal}
 
@@ -11,9 +11,9 @@ too_deep = 13
 abbrev pub not_ours : ℕ
 not_ours = 14
 
--- 1 for the tag of a part by its number, the context's own [0] to [known - 1], whether it can hold elements or not
-unfoldable pub own_of : ℕ → ℕ → ℕ
-own_of tag known = if_eq (tag / 64) 2 (if_lt (tag % 32) known 1 0) 0
+-- the tag of a part by its number, the context's own [0] to [known - 1], whether it can hold elements or not
+unfoldable pub own_of : ℕ → ℕ → Bool
+own_of tag known = eqb (tag / 64) 2 && ltb (tag % 32) known
 
 -- An element by its first bytes: it stands too deep where no level is left, and a known part may not stand here. One with bit 32
 -- in its tag holds elements, a level deeper and none of them known; any other ends where its contents end.
@@ -21,7 +21,7 @@ unfoldable pub enter : Head → ℕ → ℕ → ℕ → (ℕ → ℕ → ℕ →
 enter (Err n) at depth known held = Err (refusal n at)
 enter (Ok e) at depth known held =
     if_eq depth 0 (Err (refusal too_deep at))
-    (if_eq (own_of e.tag known) 1 (Err (refusal not_ours at))
+    (if_so (own_of e.tag known) (Err (refusal not_ours at))
     (if_eq (e.tag / 32 % 2) 1 (held e.body e.next (depth - 1) 0)
     (Ok e.next)))
 

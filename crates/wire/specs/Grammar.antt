@@ -15,8 +15,8 @@
 --        result CALLED        : [80 01 bool: part 2, or 2+4] [81 number: part 16, calling]   [82 03 HH MM SS: part 64]
 --
 -- Every length may be longer than it need be. Assumes nothing.
-use Rattle.std.specs.Prelude.{List, ℕ, ◌+◌, ◌/◌, ◌%◌, length, take, Ok, Err}
-use Rattle.text.specs.Choose.{if_eq}
+use Rattle.std.specs.Prelude.{List, ℕ, ◌+◌, ◌/◌, ◌%◌, length, take, Bool, eqb, Ok, Err}
+use Rattle.text.specs.Choose.{if_so, if_eq}
 use Rattle.wire.specs.Bytes.{byte_at}
 use Rattle.wire.specs.Heads.{head_of}
 use Rattle.wire.specs.Elements.{not_ours}
@@ -109,8 +109,8 @@ parts_of s c end k x =
 
 -- ---- components, from their first element on
 
-unfoldable pub number_if : ℕ → Number → Number
-number_if present n = if_eq present 1 n absent_number
+unfoldable pub number_if : Bool → Number → Number
+number_if present n = if_so present n absent_number
 
 unfoldable pub made_of : ℕ → ℕ → Said → ℕ → Component
 made_of k x d i =
@@ -118,8 +118,8 @@ made_of k x d i =
       kind = k;
       item = x;
       parts = d.parts;
-      calling = number_if (d.parts / 16 % 2) d.number;
-      called = number_if (d.parts / 32 % 2) d.number;
+      calling = number_if (eqb (d.parts / 16 % 2) 1) d.number;
+      called = number_if (eqb (d.parts / 32 % 2) 1) d.number;
       duration = d.duration;
       id = i;
     }

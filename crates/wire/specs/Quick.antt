@@ -1,29 +1,29 @@
 -- The usual form of a component: every length in one byte, and no element but the module's own, each in its place. Whatever is found to
 -- have it is what the grammar reads there (SaidAs, ReadAs; of a head, head_of itself); nothing is said of what is found to have another form.
 -- Assumes nothing.
-use Rattle.std.specs.Prelude.{◌≡◌, List, ℕ, ◌+◌, ◌-◌, ◌%◌, length, Some, None, Ok}
-use Rattle.text.specs.Choose.{if_lt, if_eq}
+use Rattle.std.specs.Prelude.{◌≡◌, List, ℕ, ◌+◌, ◌-◌, ◌%◌, length, Bool, true, ◌&&◌, eqb, leb, Some, None, Ok}
+use Rattle.text.specs.Choose.{if_so, if_lt, if_eq}
 use Rattle.wire.specs.Bytes.{byte_at}
 use Rattle.wire.specs.Cursors.{absent_of}
 use Rattle.wire.specs.Values.{listed_at, absent_number, party_of, there_of, clock_at, seconds_at}
-use Rattle.wire.specs.Grammar.{flag_part, first_part, party_part, made_of}
+use Rattle.wire.specs.Grammar.{flag_part, first_part, party_part}
 use Rattle.wire.specs.declared.Number.{Number}
 use Rattle.wire.specs.declared.Said.{Said}
 use Rattle.wire.specs.Answers.{Answer, Form, Parted}
 
--- 1 where an element of this tag and size stands at i, all of it
-unfoldable pub begins_of : List ℕ → ℕ → ℕ → ℕ → ℕ
-begins_of s i tag size = if_lt (length s) (i + (size + 2)) 0 (if_eq (byte_at s i) tag (if_eq (byte_at s (i + 1)) size 1 0) 0)
+-- where an element of this tag and size stands at i, all of it
+unfoldable pub begins_of : List ℕ → ℕ → ℕ → ℕ → Bool
+begins_of s i tag size = leb (i + (size + 2)) (length s) && (eqb (byte_at s i) tag && eqb (byte_at s (i + 1)) size)
 
 -- the byte after a tag of one byte, where so many bytes follow it; 128 where not: below 128 it is the element's length
 unfoldable pub short_of : List ℕ → ℕ → ℕ
 short_of s at =
     if_eq (byte_at s at % 32) 31 128
-    (if_eq (begins_of s at (byte_at s at) (byte_at s (at + 1))) 1 (byte_at s (at + 1)) 128)
+    (if_so (begins_of s at (byte_at s at) (byte_at s (at + 1))) (byte_at s (at + 1)) 128)
 
 -- the place after it; i where it does not stand there
 unfoldable pub after_of : List ℕ → ℕ → ℕ → ℕ → ℕ
-after_of s i tag size = if_eq (begins_of s i tag size) 1 (i + (size + 2)) i
+after_of s i tag size = if_so (begins_of s i tag size) (i + (size + 2)) i
 
 -- after a number, of 3 to 10 bytes
 unfoldable pub number_after : List ℕ → ℕ → ℕ
@@ -42,12 +42,12 @@ last_part s i next k = if_eq k 1 (flag_part (next - i) (byte_at s (i + 2)) 0 8) 
 unfoldable pub last_seconds : List ℕ → ℕ → ℕ → ℕ → ℕ
 last_seconds s i next k = if_eq k 1 0 (if_lt (next - i) 2 0 (seconds_at s (i + 2)))
 
-unfoldable pub last_ok : List ℕ → ℕ → ℕ → ℕ → ℕ
-last_ok s i next k = if_eq k 1 1 (if_lt (next - i) 2 1 (clock_at s (i + 2)))
+unfoldable pub last_ok : List ℕ → ℕ → ℕ → ℕ → Bool
+last_ok s i next k = if_eq k 1 true (if_lt (next - i) 2 true (clock_at s (i + 2)))
 
 -- no number, or a good one
-unfoldable pub number_ok : ℕ → Number → ℕ
-number_ok size n = if_lt size 2 1 (there_of n)
+unfoldable pub number_ok : ℕ → Number → Bool
+number_ok size n = if_lt size 2 true (there_of n)
 
 -- what a SEQUENCE from i to the end says, whose BOOLEAN ends at f and whose number n at e
 unfoldable pub said_of : List ℕ → ℕ → ℕ → ℕ → Number → ℕ → ℕ → Said
@@ -59,14 +59,9 @@ said_of s i f e n k x =
       duration = last_seconds s e (length s) k;
     }
 
--- 1 where an operation or error stands, from low to high
-unfoldable pub coded_at : List ℕ → ℕ → ℕ → ℕ → ℕ
-coded_at s i low high = if_eq (begins_of s i 6 7) 1 (listed_at s (i + 2) low high) 0
-
--- the component whose SEQUENCE it is
-unfoldable pub carried_of : Parted → ℕ → ℕ → ℕ → Form
-carried_of None k x i = None
-carried_of (Some d) k x i = Some (made_of k x d i)
+-- where an operation or error stands, from low to high
+unfoldable pub coded_at : List ℕ → ℕ → ℕ → ℕ → Bool
+coded_at s i low high = begins_of s i 6 7 && listed_at s (i + 2) low high
 
 -- what the grammar says of it
 abbrev pub SaidAs : List ℕ → Said → Parted → Type 0

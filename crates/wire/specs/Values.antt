@@ -1,24 +1,24 @@
 -- What the contents of an element say: an operation or error, a number, a duration.
 -- Assumes nothing.
-use Rattle.std.specs.Prelude.{List, ℕ, zero, suc, ◌+◌, ◌-◌, ◌*◌, ◌/◌, ◌%◌, length, Some, None}
-use Rattle.text.specs.Choose.{if_lt, if_eq}
+use Rattle.std.specs.Prelude.{List, ℕ, zero, suc, ◌+◌, ◌-◌, ◌*◌, ◌/◌, ◌%◌, length, Bool, true, false, not, ◌&&◌, eqb, ltb, leb, Some, None}
+use Rattle.text.specs.Choose.{if_so, if_lt, if_eq}
 use Rattle.wire.specs.Bytes.{byte_at}
 use Rattle.wire.specs.declared.Number.{Number}
 use Rattle.wire.specs.Answers.{Digits}
 
 -- ---- operations and errors: 00 11 85 60 03 01 NN is 0.0.17.736.3.1.NN
 
-unfoldable pub module_by : ℕ → ℕ → ℕ → ℕ → ℕ → ℕ → ℕ
-module_by a b c d e f = if_eq a 0 (if_eq b 17 (if_eq c 133 (if_eq d 96 (if_eq e 3 (if_eq f 1 1 0) 0) 0) 0) 0) 0
+unfoldable pub module_by : ℕ → ℕ → ℕ → ℕ → ℕ → ℕ → Bool
+module_by a b c d e f = eqb a 0 && (eqb b 17 && (eqb c 133 && (eqb d 96 && (eqb e 3 && eqb f 1))))
 
-unfoldable pub module_at : List ℕ → ℕ → ℕ
+unfoldable pub module_at : List ℕ → ℕ → Bool
 module_at s i = module_by (byte_at s i) (byte_at s (i + 1)) (byte_at s (i + 2)) (byte_at s (i + 3)) (byte_at s (i + 4)) (byte_at s (i + 5))
 
-unfoldable pub listed_of : ℕ → ℕ → ℕ → ℕ → ℕ
-listed_of prefix n low high = if_eq prefix 1 (if_lt n low 0 (if_lt high n 0 1)) 0
+unfoldable pub listed_of : Bool → ℕ → ℕ → ℕ → Bool
+listed_of prefix n low high = prefix && (leb low n && leb n high)
 
--- 1 where the module's identifier stands, and after it a number from low to high
-unfoldable pub listed_at : List ℕ → ℕ → ℕ → ℕ → ℕ
+-- where the module's identifier stands, and after it a number from low to high
+unfoldable pub listed_at : List ℕ → ℕ → ℕ → ℕ → Bool
 listed_at s i low high = listed_of (module_at s i) (byte_at s (i + 6)) low high
 
 -- ---- numbers: [odd * 128 + nature] [1x] digits, two in a byte, the first in the low half
@@ -39,10 +39,10 @@ abbrev pub absent_number : Number
 absent_number = record { count = 0; value = 0 }
 
 -- an odd count has the filler 0 last; 1 to 15 digits
-unfoldable pub counted_of : ℕ → ℕ → ℕ → ℕ → Number
+unfoldable pub counted_of : ℕ → Bool → ℕ → ℕ → Number
 counted_of m odd nature v =
     if_eq m 0 absent_number
-    (if_eq odd 1 (if_eq (v % 10) 0 (record { count = nature + (2 * m - 1); value = v / 10 }) absent_number)
+    (if_so odd (if_eq (v % 10) 0 (record { count = nature + (2 * m - 1); value = v / 10 }) absent_number)
     (if_eq m 8 absent_number
     (record { count = nature + 2 * m; value = v })))
 
@@ -50,8 +50,8 @@ counted_of m odd nature v =
 unfoldable pub natured_of : ℕ → ℕ → ℕ → ℕ → Number
 natured_of m first second v =
     if_eq (second / 16) 1
-    (if_eq (first % 128) 3 (counted_of m (first / 128) 0 v)
-    (if_eq (first % 128) 4 (counted_of m (first / 128) 128 v)
+    (if_eq (first % 128) 3 (counted_of m (eqb (first / 128) 1) 0 v)
+    (if_eq (first % 128) 4 (counted_of m (eqb (first / 128) 1) 128 v)
     absent_number))
     absent_number
 
@@ -66,15 +66,15 @@ party_by s i m = if_lt 8 m absent_number (digited_of m (byte_at s i) (byte_at s 
 unfoldable pub party_of : List ℕ → ℕ → ℕ → Number
 party_of s i next = if_lt (length s) next absent_number (if_lt next (i + 2) absent_number (party_by s i (next - (i + 2))))
 
-unfoldable pub there_of : Number → ℕ
-there_of n = if_eq n.count 0 0 1
+unfoldable pub there_of : Number → Bool
+there_of n = not (eqb n.count 0)
 
 -- ---- the duration: hours, minutes, seconds
 
-unfoldable pub clock_of : ℕ → ℕ → ℕ
-clock_of m sec = if_lt m 60 (if_lt sec 60 1 0) 0
+unfoldable pub clock_of : ℕ → ℕ → Bool
+clock_of m sec = ltb m 60 && ltb sec 60
 
-unfoldable pub clock_at : List ℕ → ℕ → ℕ
+unfoldable pub clock_at : List ℕ → ℕ → Bool
 clock_at s i = clock_of (byte_at s (i + 1)) (byte_at s (i + 2))
 
 unfoldable pub seconds_at : List ℕ → ℕ → ℕ

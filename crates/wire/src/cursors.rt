@@ -1,8 +1,10 @@
 // A cursor over the elements of one holder, up to the holder's `end`. It is taken and given by value; once stopped it stays.
+#![tactic(auto, unfolding(crate::specs::Cursors::stopped_of, crate::specs::Cursors::absent_of, crate::specs::Cursors::opened_of, crate::specs::Cursors::inside_of, crate::specs::Cursors::sized_of, crate::specs::Cursors::look_of, crate::specs::Cursors::need_of, crate::specs::Cursors::may_of, crate::specs::Cursors::extra_of, crate::specs::Cursors::closed_of, crate::specs::Cursors::checked_of, crate::specs::Cursors::seen_of, crate::specs::Cursors::rest_of, text::specs::Choose::if_lt, text::specs::Choose::if_le, text::specs::Choose::if_eq, text::specs::Choose::if_so))]
+
 ghost use Rattle.std.specs.Prelude.{◌≡◌};
 ghost use Rattle.wire.specs.Cursors.{stopped_of, absent_of, opened_of, inside_of, sized_of, look_of, need_of, may_of, extra_of, closed_of, checked_of, seen_of, rest_of};
 
-use crate::bytes::{byte, minus};
+use crate::bytes::byte;
 use crate::elements::{NOT_OURS, sequence};
 use crate::heads::{BAD_LENGTH, head};
 use crate::{Cursor, Element, Refusal};
@@ -20,11 +22,7 @@ pub fn stopped(number: u8, place: usize) -> Cursor
 pub fn absent(at: usize) -> Cursor
     ensures { result ≡ absent_of at }
 {
-    Cursor {
-        number: 0,
-        at,
-        body: 0,
-    }
+    opened(0, at)
 }
 
 fn opened(body: usize, next: usize) -> Cursor
@@ -41,24 +39,19 @@ fn opened(body: usize, next: usize) -> Cursor
 pub fn inside(c: Cursor) -> Cursor
     ensures { result ≡ inside_of c }
 {
-    if c.number == 0 {
-        return absent(c.body);
-    }
-    c
+    if c.number == 0 { absent(c.body) } else { c }
 }
 
 // The element asked for, of a size that it can have.
 fn sized(at: usize, body: usize, next: usize, least: usize, most: usize) -> Cursor
     ensures { result ≡ sized_of at body next least most }
 {
-    let size = minus(next, body);
-    if size < least {
-        return stopped(NOT_OURS, at);
+    let size = next.saturating_sub(body);
+    if size < least || most < size {
+        stopped(NOT_OURS, at)
+    } else {
+        opened(body, next)
     }
-    if most < size {
-        return stopped(NOT_OURS, at);
-    }
-    opened(body, next)
 }
 
 fn look(h: Result<Element, u8>, at: usize, tag: u8, least: usize, most: usize) -> Cursor
@@ -68,9 +61,10 @@ fn look(h: Result<Element, u8>, at: usize, tag: u8, least: usize, most: usize) -
         Err(n) => stopped(n, at),
         Ok(e) => {
             if e.tag == tag {
-                return sized(at, e.body, e.next, least, most);
+                sized(at, e.body, e.next, least, most)
+            } else {
+                stopped(NOT_OURS, at)
             }
-            stopped(NOT_OURS, at)
         }
     }
 }
@@ -79,29 +73,26 @@ fn look(h: Result<Element, u8>, at: usize, tag: u8, least: usize, most: usize) -
 pub fn need(s: &[u8], c: Cursor, end: usize, tag: u8, least: usize, most: usize) -> Cursor
     ensures { result ≡ need_of s.now c end tag least most }
 {
-    if c.number == 0 {
-        if end <= c.at {
-            return stopped(NOT_OURS, c.at);
-        }
-        return look(head(s, c.at, end, BAD_LENGTH), c.at, tag, least, most);
+    if c.number != 0 {
+        c
+    } else if end <= c.at {
+        stopped(NOT_OURS, c.at)
+    } else {
+        look(head(s, c.at, end, BAD_LENGTH), c.at, tag, least, most)
     }
-    c
 }
 
 // An element that may stand here. What else stands here is looked at by whoever needs it, or ends the holder.
 pub fn may(s: &[u8], c: Cursor, end: usize, tag: u8, least: usize, most: usize) -> Cursor
     ensures { result ≡ may_of s.now c end tag least most }
 {
-    if c.number == 0 {
-        if end <= c.at {
-            return absent(c.at);
-        }
-        if byte(s, c.at) == tag {
-            return need(s, c, end, tag, least, most);
-        }
-        return absent(c.at);
+    if c.number != 0 {
+        c
+    } else if c.at < end && byte(s, c.at) == tag {
+        need(s, c, end, tag, least, most)
+    } else {
+        absent(c.at)
     }
-    c
 }
 
 fn extra(h: Result<Element, u8>, at: usize) -> Cursor
@@ -117,26 +108,22 @@ fn extra(h: Result<Element, u8>, at: usize) -> Cursor
 pub fn closed(s: &[u8], c: Cursor, end: usize) -> Cursor
     ensures { result ≡ closed_of s.now c end }
 {
-    if c.number == 0 {
-        if end <= c.at {
-            return c;
-        }
-        return extra(head(s, c.at, end, BAD_LENGTH), c.at);
+    if c.number != 0 || end <= c.at {
+        c
+    } else {
+        extra(head(s, c.at, end, BAD_LENGTH), c.at)
     }
-    c
 }
 
 // The contents of the element last read, which began at `from`, must be ok.
-pub fn checked(ok: u8, from: usize, c: Cursor) -> Cursor
+pub fn checked(ok: bool, from: usize, c: Cursor) -> Cursor
     ensures { result ≡ checked_of ok from c }
 {
-    if c.body == 0 {
-        return c;
+    if c.body == 0 || ok {
+        c
+    } else {
+        stopped(NOT_OURS, from)
     }
-    if ok == 1 {
-        return c;
-    }
-    stopped(NOT_OURS, from)
 }
 
 fn seen(e: Result<usize, Refusal>) -> Cursor
@@ -152,11 +139,11 @@ fn seen(e: Result<usize, Refusal>) -> Cursor
 pub fn rest(s: &[u8], c: Cursor, end: usize, depth: u8, known: u8) -> Cursor
     ensures { result ≡ rest_of s.now c end depth known }
 {
-    if c.number == 0 {
-        if end <= c.at {
-            return absent(c.at);
-        }
-        return seen(sequence(s, c.at, end, depth, known));
+    if c.number != 0 {
+        c
+    } else if end <= c.at {
+        absent(c.at)
+    } else {
+        seen(sequence(s, c.at, end, depth, known))
     }
-    c
 }

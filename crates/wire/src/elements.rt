@@ -1,6 +1,7 @@
 // An element and the elements that it holds. The two readers call each other: what an element holds has fewer bytes than the element, and
 // one level less is left for it.
-ghost use Rattle.std.specs.Prelude.{◌≡◌};
+ghost use Rattle.std.specs.Prelude.{◌≡◌, Err};
+ghost use Rattle.wire.specs.Answers.{refusal};
 ghost use Rattle.wire.specs.Elements.{own_of, element_of, sequence_of};
 
 use crate::Refusal;
@@ -10,17 +11,18 @@ pub const TOO_DEEP: u8 = 13;
 
 pub const NOT_OURS: u8 = 14;
 
-// 1 for the tag of a known part, [0] to [known - 1].
-fn own(tag: u8, known: u8) -> u8
+pub(crate) fn refused<T>(number: u8, place: usize) -> Result<T, Refusal>
+    ensures { result ≡ Err (refusal number place) }
+{
+    Err(Refusal { number, place })
+}
+
+// The tag of a known part, [0] to [known - 1].
+#[tactic(auto, unfolding(crate::specs::Elements::own_of))]
+fn own(tag: u8, known: u8) -> bool
     ensures { result ≡ own_of tag known }
 {
-    if tag / 64 == 2 {
-        if tag % 32 < known {
-            return 1;
-        }
-        return 0;
-    }
-    0
+    tag / 64 == 2 && tag % 32 < known
 }
 
 // The element at a place, all of it before `end`, with what it holds.
@@ -29,24 +31,17 @@ pub fn element(s: &[u8], at: usize, end: usize, depth: u8, known: u8) -> Result<
     ensures { result ≡ element_of s.now at end depth known }
 {
     match head(s, at, end, BAD_LENGTH) {
-        Err(number) => Err(Refusal { number, place: at }),
+        Err(number) => refused(number, at),
         Ok(e) => {
             if depth == 0 {
-                return Err(Refusal {
-                    number: TOO_DEEP,
-                    place: at,
-                });
+                refused(TOO_DEEP, at)
+            } else if own(e.tag, known) {
+                refused(NOT_OURS, at)
+            } else if e.tag / 32 % 2 == 1 {
+                sequence(s, e.body, e.next, depth - 1, 0)
+            } else {
+                Ok(e.next)
             }
-            if own(e.tag, known) == 1 {
-                return Err(Refusal {
-                    number: NOT_OURS,
-                    place: at,
-                });
-            }
-            if e.tag / 32 % 2 == 1 {
-                return sequence(s, e.body, e.next, depth - 1, 0);
-            }
-            Ok(e.next)
         }
     }
 }

@@ -23,6 +23,7 @@ pub use writable::bad_field;
 pub use writer::{write_component, write_parameter};
 
 // A refusal's number, 11 to 14 of 01, and where it was met.
+// Kept: a number and no enum of the four, since where calls run out `element_by` and `walk_by` say 0, which `refused_is_numbered` rules out.
 #[derive(Clone, Copy, PartialEq, Eq)]
 pub struct Refusal {
     pub number: u8,
@@ -39,6 +40,7 @@ pub struct Element {
 
 // Where a reader is. number: 0, or the refusal that stopped it, at the place `at`; nothing moves it then. at: the place of the next element.
 // body: where the contents of the element last asked for begin; 0 if it did not stand there.
+// Kept: the number beside the places and no Result, since the definitions of specs/Grammar.antt read `body` and `at` of a stopped cursor too.
 #[derive(Clone, Copy)]
 pub struct Cursor {
     pub number: u8,
@@ -47,6 +49,7 @@ pub struct Cursor {
 }
 
 // A telephone number as a record of 01 has it: the count of its digits, 128 more for an international one, and its value. Absent: 0 and 0.
+// Kept: here and in Component numbers, no Option and no enum: fields out of range are values, which `bad_field` tells (`told_is_first_bad`).
 #[derive(Clone, Copy)]
 pub struct Number {
     pub count: u8,

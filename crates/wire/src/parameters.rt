@@ -1,10 +1,11 @@
 // A whole parameter: 32 LL 91, then components, one after the other, to its end.
+#![tactic(auto, unfolding(crate::specs::Parameters::framed_of, text::specs::Choose::if_lt, text::specs::Choose::if_eq, text::specs::Choose::if_so))]
+
 ghost use Rattle.std.specs.Prelude.{◌≡◌, ◌<◌, length};
 ghost use Rattle.wire.specs.Parameters.{before, walk_of, framed_of, parameter_of, Bounded, told_of, several_of};
 
-use crate::bytes::wide;
 use crate::components::read_component;
-use crate::elements::NOT_OURS;
+use crate::elements::{NOT_OURS, refused};
 use crate::heads::{BAD_LENGTH, CUT_SHORT};
 use crate::{Component, Refusal, Whole};
 
@@ -27,9 +28,10 @@ fn one_or_more(s: &[u8], c: Component, next: usize) -> Result<Whole, Refusal>
     ensures { result ≡ told_of (before c (walk_of s.now next)) }
 {
     if s.len() <= next {
-        return Ok(Whole::One(c));
+        Ok(Whole::One(c))
+    } else {
+        several(s, next)
     }
-    several(s, next)
 }
 
 fn components(s: &[u8], at: usize) -> Result<Whole, Refusal>
@@ -47,43 +49,20 @@ pub fn framed(s: &[u8]) -> Result<(), Refusal>
     ensures { (result ≡ framed_of s.now) × Bounded s.now result }
 {
     if s.len() < 2 {
-        return Err(Refusal {
-            number: CUT_SHORT,
-            place: 0,
-        });
+        return refused(CUT_SHORT, 0);
     }
-    let said = 2 + wide(s[1]);
+    let said = 2 + usize::from(s[1]);
     if s.len() < said {
-        return Err(Refusal {
-            number: CUT_SHORT,
-            place: 0,
-        });
+        refused(CUT_SHORT, 0)
+    } else if said < s.len() || said == 2 {
+        refused(BAD_LENGTH, 0)
+    } else if s[0] != 50 {
+        refused(NOT_OURS, 0)
+    } else if s[2] != 145 {
+        refused(NOT_OURS, 2)
+    } else {
+        Ok(())
     }
-    if said < s.len() {
-        return Err(Refusal {
-            number: BAD_LENGTH,
-            place: 0,
-        });
-    }
-    if said == 2 {
-        return Err(Refusal {
-            number: BAD_LENGTH,
-            place: 0,
-        });
-    }
-    if s[0] != 50 {
-        return Err(Refusal {
-            number: NOT_OURS,
-            place: 0,
-        });
-    }
-    if s[2] != 145 {
-        return Err(Refusal {
-            number: NOT_OURS,
-            place: 2,
-        });
-    }
-    Ok(())
 }
 
 // A whole parameter. Its own three bytes first, then its components.

@@ -1,85 +1,30 @@
 // What the contents of an element say: an operation or error, a number, a duration. Every function is total.
+#![tactic(auto, unfolding(crate::specs::Values::module_by, crate::specs::Values::module_at, crate::specs::Values::listed_of, crate::specs::Values::listed_at, crate::specs::Values::paired_of, crate::specs::Values::counted_of, crate::specs::Values::natured_of, crate::specs::Values::digited_of, crate::specs::Values::party_by, crate::specs::Values::party_of, crate::specs::Values::there_of, crate::specs::Values::clock_of, crate::specs::Values::clock_at, crate::specs::Values::seconds_at, crate::specs::Values::problem_tag, text::specs::Choose::if_lt, text::specs::Choose::if_eq, text::specs::Choose::if_so))]
+
 ghost use Rattle.std.specs.Prelude.{◌≡◌, ◌+◌, ◌*◌, ◌≤◌, ◌<◌, ◌^◌, length};
-ghost use Rattle.wire.specs.Values.{module_by, module_at, listed_of, listed_at, paired_of, pairs_at, counted_of, natured_of, digited_of, party_by, party_of, there_of, clock_of, seconds_at, clock_at, problem_tag};
+ghost use Rattle.wire.specs.Values.{module_at, listed_at, paired_of, pairs_at, counted_of, natured_of, digited_of, party_by, party_of, there_of, clock_at, seconds_at, problem_tag};
 
 use crate::Number;
 use crate::bytes::{byte, byte_past};
 
 pub const ABSENT: Number = Number { count: 0, value: 0 };
 
-fn wide64(x: u8) -> u64
-    ensures { (result ≡ x) × (result < 256) }
-{
-    x as u64
-}
-
-fn wide32(x: u8) -> u32
-    ensures { (result ≡ x) × (result < 256) }
-{
-    x as u32
-}
-
 // ---- operations and errors
 
-fn module_by(a: u8, b: u8, c: u8, d: u8, e: u8, f: u8) -> u8
-    ensures { result ≡ module_by a b c d e f }
-{
-    if a != 0 {
-        return 0;
-    }
-    if b != 17 {
-        return 0;
-    }
-    if c != 133 {
-        return 0;
-    }
-    if d != 96 {
-        return 0;
-    }
-    if e != 3 {
-        return 0;
-    }
-    if f != 1 {
-        return 0;
-    }
-    1
-}
-
-// 1 where the six bytes of 0.0.17.736.3.1 stand.
-fn module(s: &[u8], i: usize) -> u8
+// The six bytes of 0.0.17.736.3.1.
+fn module(s: &[u8], i: usize) -> bool
     ensures { result ≡ module_at s.now i }
 {
-    if s.len() < 6 {
-        return 0;
-    }
-    if s.len() - 6 < i {
-        return 0;
-    }
-    module_by(s[i], s[i + 1], s[i + 2], s[i + 3], s[i + 4], s[i + 5])
+    6 <= s.len() && i <= s.len() - 6 && matches!(&s[i..i + 6], [0, 17, 133, 96, 3, 1])
 }
 
-fn listed_of(prefix: u8, n: u8, low: u8, high: u8) -> u8
-    ensures { result ≡ listed_of prefix n low high }
-{
-    if prefix == 1 {
-        if n < low {
-            return 0;
-        }
-        if high < n {
-            return 0;
-        }
-        return 1;
-    }
-    0
-}
-
-// 1 where the module's identifier stands, and after it a number from `low` to `high`.
-pub fn listed(s: &[u8], i: usize, low: u8, high: u8) -> u8
+// The module's identifier, and after it a number from `low` to `high`.
+pub fn listed(s: &[u8], i: usize, low: u8, high: u8) -> bool
     ensures { result ≡ listed_at s.now i low high }
 {
-    let p = module(s, i);
     let n = byte_past(s, i, 6);
-    listed_of(p, n, low, high)
+    // Kept: here and in `number_after` two comparisons: by `contains` of a range the usual parameters take 216 thousand instructions, not 210.
+    module(s, i) && low <= n && n <= high
 }
 
 // ---- numbers
@@ -89,13 +34,11 @@ fn paired(v: u64, b: u8) -> Option<u64>
     requires { v < 10 ^ 16 }
     ensures { result ≡ paired_of v b }
 {
-    if 9 < b % 16 {
-        return None;
+    if 9 < b % 16 || 9 < b / 16 {
+        None
+    } else {
+        Some(v * 100 + u64::from(b % 16 * 10 + b / 16))
     }
-    if 9 < b / 16 {
-        return None;
-    }
-    Some(v * 100 + wide64(b % 16 * 10 + b / 16))
 }
 
 // The digits of a number's last m bytes, which are all there.
@@ -104,36 +47,34 @@ fn pairs(s: &[u8], i: usize, m: usize) -> Option<u64>
     ensures { result ≡ pairs_at s.now i m }
 {
     let mut v = 0;
-    let mut j = 0;
-    while j < m {
+    for j in 0..m {
         v = paired(v, s[i + (2 + j)])?;
-        j += 1;
     }
     Some(v)
 }
 
-fn counted(m: u8, odd: u8, nature: u8, v: u64) -> Number
+fn counted(m: u8, odd: bool, nature: u8, v: u64) -> Number
     requires { (m ≤ 8) × (nature ≤ 128) }
     ensures { result ≡ counted_of m odd nature v }
 {
     if m == 0 {
-        return ABSENT;
-    }
-    if odd == 1 {
+        ABSENT
+    } else if odd {
         if v % 10 == 0 {
-            return Number {
+            Number {
                 count: nature + (2 * m - 1),
                 value: v / 10,
-            };
+            }
+        } else {
+            ABSENT
         }
-        return ABSENT;
-    }
-    if m == 8 {
-        return ABSENT;
-    }
-    Number {
-        count: nature + 2 * m,
-        value: v,
+    } else if m == 8 {
+        ABSENT
+    } else {
+        Number {
+            count: nature + 2 * m,
+            value: v,
+        }
     }
 }
 
@@ -142,15 +83,14 @@ fn natured(m: u8, first: u8, second: u8, v: u64) -> Number
     ensures { result ≡ natured_of m first second v }
 {
     if second / 16 == 1 {
-        if first % 128 == 3 {
-            return counted(m, first / 128, 0, v);
+        match first % 128 {
+            3 => counted(m, first / 128 == 1, 0, v),
+            4 => counted(m, first / 128 == 1, 128, v),
+            _ => ABSENT,
         }
-        if first % 128 == 4 {
-            return counted(m, first / 128, 128, v);
-        }
-        return ABSENT;
+    } else {
+        ABSENT
     }
-    ABSENT
 }
 
 fn digited(m: u8, first: u8, second: u8, d: Option<u64>) -> Number
@@ -168,61 +108,43 @@ fn party_by(s: &[u8], i: usize, m: usize) -> Number
     ensures { result ≡ party_by s.now i m }
 {
     if 8 < m {
-        return ABSENT;
+        ABSENT
+    } else {
+        digited(m as u8, s[i], s[i + 1], pairs(s, i, m))
     }
-    let d = pairs(s, i, m);
-    digited(m as u8, s[i], s[i + 1], d)
 }
 
 // The number in the bytes from i to next; absent if that is none.
 pub fn party(s: &[u8], i: usize, next: usize) -> Number
     ensures { result ≡ party_of s.now i next }
 {
-    if s.len() < next {
-        return ABSENT;
+    if s.len() < next || next.saturating_sub(i) < 2 {
+        ABSENT
+    } else {
+        party_by(s, i, next - i - 2)
     }
-    if next <= i {
-        return ABSENT;
-    }
-    if next - i < 2 {
-        return ABSENT;
-    }
-    party_by(s, i, next - i - 2)
 }
 
-pub fn there(n: Number) -> u8
+pub fn there(n: Number) -> bool
     ensures { result ≡ there_of n }
 {
-    if n.count == 0 {
-        return 0;
-    }
-    1
+    n.count != 0
 }
 
 // ---- the duration
 
-fn clock_of(m: u8, sec: u8) -> u8
-    ensures { result ≡ clock_of m sec }
-{
-    if m < 60 {
-        if sec < 60 {
-            return 1;
-        }
-        return 0;
-    }
-    0
-}
-
-pub fn clock(s: &[u8], i: usize) -> u8
+pub fn clock(s: &[u8], i: usize) -> bool
     ensures { result ≡ clock_at s.now i }
 {
-    clock_of(byte_past(s, i, 1), byte_past(s, i, 2))
+    byte_past(s, i, 1) < 60 && byte_past(s, i, 2) < 60
 }
 
 pub fn seconds(s: &[u8], i: usize) -> u32
     ensures { result ≡ seconds_at s.now i }
 {
-    wide32(byte(s, i)) * 3600 + wide32(byte_past(s, i, 1)) * 60 + wide32(byte_past(s, i, 2))
+    u32::from(byte(s, i)) * 3600
+        + u32::from(byte_past(s, i, 1)) * 60
+        + u32::from(byte_past(s, i, 2))
 }
 
 // ---- one byte
@@ -230,8 +152,5 @@ pub fn seconds(s: &[u8], i: usize) -> u32
 pub fn problem_tag(b: u8) -> u8
     ensures { result ≡ problem_tag b }
 {
-    if b / 4 == 32 {
-        return b;
-    }
-    128
+    if b / 4 == 32 { b } else { 128 }
 }

@@ -1,5 +1,5 @@
-use Rattle.wire.specs.Grammar.{error_of}
 use borrow.Author.Rules.{rules}
+use Rattle.wire.specs.Grammar.{error_of}
 use Rattle.wire.proofs.components.error.Goals as goal
 
 pub returns : goal.returns

@@ -1,5 +1,5 @@
-use Rattle.wire.specs.Grammar.{reject_of}
 use borrow.Author.Rules.{rules}
+use Rattle.wire.specs.Grammar.{reject_of}
 use Rattle.wire.proofs.components.reject.Goals as goal
 
 pub returns : goal.returns

@@ -7,8 +7,8 @@ use Rattle.wire.proofs.elements.+element_sequence.Goals as goal
 pub element-returns-then-depth-eq0 : goal.element-returns-then-depth-eq0
 element-returns-then-depth-eq0 t c = search element_deep
 
-pub element-returns-then-own-eq1 : goal.element-returns-then-own-eq1
-element-returns-then-own-eq1 t c = search element_own
+pub element-returns-then-own : goal.element-returns-then-own
+element-returns-then-own t c = search element_own
 
 pub element-sequence-requires : goal.element-sequence-requires
 element-sequence-requires t c = (search held_falls, tt)
