@@ -87,10 +87,10 @@ for tool in awk cat dirname grep head mkdir mktemp readlink rm sed sh uname; do 
 printf '\062\027\221\243\014\002\001\001\006\007\000\021\205\140\003\001\005\244\006\002\001\002\200\001\000' >"$room/parameter"
 for name in listing dump record wire; do
     # its program, a file for it, and the crates that it is proved with, in order; refuse: the one that is refused in a first run
-    file=$here/examples/room-pays.rev program=$name crates="meters rows board text files $name" refuse=rows
+    file=$here/examples/room-pays.rev program=$name crates="meters rows board text files input $name" refuse=rows
     case $name in
-    record) file=$here/examples/room-pays.words ;;
-    wire) file=$room/parameter program=wireline crates="text wire wireline" refuse=wire ;;
+    record) file=$here/examples/room-pays.words crates="meters rows board text files input pieces record" ;;
+    wire) file=$room/parameter program=wireline crates="text wire input pieces wireline" refuse=wire ;;
     esac
     # builds it if it is missing
     "./$name" "$file" >/dev/null

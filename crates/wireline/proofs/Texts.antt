@@ -1,6 +1,6 @@
 -- A line and its pieces, put one after the other.
 -- Assumes nothing.
-use Rattle.std.proofs.Common.{◌≡◌, ◌==◌, Bool, ℕ, ◌/◌, ◌%◌, ◌≤◌, List, [], ◌∷◌, ◌++◌, length, take, ap, arith, length-take-le}
+use Rattle.std.proofs.Common.{◌≡◌, ◌==◌, Bool, ℕ, ◌/◌, ◌%◌, List, [], ◌∷◌, ◌++◌, ap}
 use Rattle.text.specs.Choose.{if_so, if_eq}
 use Rattle.text.specs.Text.{Put, ascii, last_digits, decimal, numbered}
 use Rattle.text.proofs.Laws.{put_after, put_as}
@@ -15,10 +15,6 @@ use Rattle.wireline.specs.Lines.{head_text, id_text, line_in, line_text}
 -- a word and a number, by tests
 abbrev said_if : Bool → List ℕ → Bool → Number → List ℕ
 said_if present word counted n = if_so present (word ++ if_so counted (counted_text n) (digits_text n)) []
-
--- the front of a text is no longer than the text
-pub front_whole : (s : List ℕ) (n k : ℕ) → n ≤ length s → length s ≤ k → length (take n s) ≤ k
-front_whole s n k h g = omega (arith, length-take-le n s h)
 
 module _ (l₀ l₁ l₂ : List ℕ) (i₀ i₁ i₂ : ℕ) where
   pub octet_as : (b x y : ℕ) → x ≡ hex_digit (b / 16) → y ≡ hex_digit (b % 16) → Put l₀ i₀ (x ∷ []) l₁ i₁ → Put l₁ i₁ (y ∷ []) l₂ i₂

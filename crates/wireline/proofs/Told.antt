@@ -8,24 +8,10 @@ use Rattle.wire.specs.Parameters.{Parameter, refused, holds, before, onward, wal
 use Rattle.wire.specs.declared.Component.{Component}
 use Rattle.wire.specs.declared.Whole.{Whole}
 use Rattle.wire.proofs.Walks.{read_on, walk_end, walk_on}
-use Rattle.wireline.specs.Answers.{refused_text, read_text, answer_text, own_line, lines_text, Held, walk_text, parameter_text}
+use Rattle.wireline.specs.Answers.{refused_text, own_line, lines_text, Held, walk_text, parameter_text}
 use Rattle.wire.specs.declared.Refusal.{Refusal}
 use Rattle.wire.specs.Answers.{Answer, Frame, Told, refusal}
 use Rattle.std.specs.Prelude.{Ok, Err}
-
--- ---- one component
-
-module _ (s l₀ l₁ : List ℕ) (j : ℕ) (a : Answer) (e : a ≡ component_of s 0) where
-  answer_by_lem : (b : Answer) → a ≡ b → Put l₀ 0 (answer_text b) l₁ j → Put l₀ 0 (answer_text (component_of s 0)) l₁ j
-  answer_by_lem b f p = put_as (ap answer_text (sym f ∙ e)) p
-
-  pub answer_refused : (r : Refusal) → a ≡ Err r → Put l₀ 0 (refused_text r.number r.place) l₁ j
-      → Put l₀ 0 (answer_text (component_of s 0)) l₁ j
-  answer_refused r f p = answer_by_lem (Err r) f p
-
-  pub answer_read : (c : Component) (next : ℕ) → a ≡ Ok (c, next) → Put l₀ 0 (read_text c next) l₁ j
-      → Put l₀ 0 (answer_text (component_of s 0)) l₁ j
-  answer_read c next f p = answer_by_lem (Ok (c, next)) f p
 
 -- ---- a parameter that is held, and what follows its first component
 
