@@ -4,7 +4,7 @@
 use Rattle.std.proofs.Common.{◌≡◌, ℕ, ◌^◌, ◌<◌, ◌≤◌, Bool, true, false, eqb, leb, ◌⊎◌, List, [], ◌∷◌, ◌++◌, length, sym, refl, ap, ◌∙◌, inl, inr, append_assoc, append-nil, arith, eq-eqb, eqb-true, leb-false, leb-true}
 use mathlib.Core.List.{head-eq_of_cons-eq, tail-eq_of_cons-eq, append_cancel_left}
 use Rattle.text.specs.Choose.{if_eq, if_so}
-use Rattle.text.specs.Text.{ascii, last_digits, decimal_by, decimal, numbered}
+use Rattle.text.specs.Text.{ascii, last_digits, decimal_by, decimal, value_text, numbered}
 use Rattle.text.specs.Value.{AllDigits, NoDigit, value_of}
 use Rattle.text.proofs.Cases.{yes_eq, no_eq, yes_so, no_so, both_eq}
 use Rattle.text.proofs.Decimal.{decimal_value, by_value, decimal_digits, by_digits, last_digits_lem, decimal_some}
@@ -25,7 +25,7 @@ use Rattle.files.specs.Lines.{action_text}
 use Rattle.files.specs.Messages.{component_text, text_if, sign_text, number_text, with_digits, parts_text, values_text, carried_text}
 use Rattle.files.specs.Messages.{sent_text, released_text}
 use Rattle.files.specs.Typed.{TypedNumber}
-use Rattle.files.specs.Words.{digits_word, value_text, counted_word, number_word}
+use Rattle.files.specs.Words.{digits_word, counted_word, number_word}
 use Rattle.files.proofs.CountByte.{in_range_value}
 
 -- ---- A sign, digits, and what stands after them

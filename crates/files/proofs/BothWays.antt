@@ -31,8 +31,7 @@ use Rattle.files.specs.declared.Where.TheVariants.{Plain, Slot}
 use Rattle.files.proofs.CountByte.{count_typed, byte_again, number_again, there_small, named_small, there_byte, named_byte, absent_byte}
 use Rattle.files.proofs.Records.{le_one, plain_ways, frame_ways, slotted_in, frame_slotted, frame_plain, by_body, read_as, plain_read_as}
 use Rattle.files.proofs.Stored.{Fits, Holds, holds_left, holds_right, holds_between, le_within, fields_length, fields_back, fields_again, bytes_join, fields_bytes}
-use Rattle.std.specs.Prelude.{Option, None, Some, Ok, Err}
-use Rattle.files.specs.declared.Unreadable.{Unreadable}
+use Rattle.std.specs.Prelude.{None, Some, Ok, Err}
 
 -- ---- its values have room in its fields
 

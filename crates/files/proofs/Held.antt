@@ -16,8 +16,7 @@ use Rattle.board.proofs.Laws.{at_place, answer_is, row_is, past_63}
 use Rattle.files.specs.Listing.{slot_of, slot_found, answer_of, answer_by, row_by, index_of}
 use Rattle.files.specs.Bodies.{Reading, got}
 use Rattle.files.specs.Frames.{stop_number}
-use Rattle.std.specs.Prelude.{Option, None, Some, Ok, Err}
-use Rattle.files.specs.declared.Unreadable.{Unreadable}
+use Rattle.std.specs.Prelude.{None, Some, Ok, Err}
 
 -- ---- what is held
 

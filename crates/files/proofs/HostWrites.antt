@@ -24,7 +24,7 @@ use Rattle.files.proofs.BothWays.{plain_stands, plain_acts, plain_ends_past, pla
 use Rattle.files.proofs.Puts.{is_whole, ways}
 use Rattle.files.proofs.Unread.{plain_stop_number}
 use Rattle.files.proofs.Same.{answered_of, held_of, Wrote, Numbered, HandedOver}
-use Rattle.std.specs.Prelude.{Option, None, Some, Ok, Err}
+use Rattle.std.specs.Prelude.{None, Some, Ok, Err}
 use Rattle.files.specs.declared.Unreadable.{Unreadable}
 use Rattle.files.specs.declared.Unreadable.TheVariants.{CutShort, BadLength, UnknownKind}
 

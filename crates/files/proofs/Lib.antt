@@ -21,5 +21,4 @@ pub mod Theorems
 pub mod Turns
 pub mod TwoRooms
 pub mod Unread
-pub mod Values
 pub mod Worked

@@ -8,16 +8,13 @@ use Rattle.rows.specs.declared.Event.{Event}
 use Rattle.rows.specs.declared.Event.TheVariants.{Opening, Ask, FromAccess, Time}
 use Rattle.rows.specs.declared.Nature.{Nature}
 use Rattle.rows.specs.declared.Number.{Number}
-use Rattle.text.specs.Choose.{if_lt, if_eq, if_so}
-use Rattle.files.specs.declared.Frame.{Frame}
+use Rattle.text.specs.Choose.{if_lt, if_so}
 use Rattle.text.proofs.Cases.{yes_lt, no_lt, no_le, yes_eq, no_eq, both_lt, both_le, both_eq}
 use Rattle.files.specs.Bytes.{byte_at, le_at, part}
 use Rattle.files.specs.Bodies.{nature_of, count_of, number_if, message_from, opening_at, ask_at, component_of, message_at, access_at, time_at, event_at}
 use Rattle.files.specs.Bodies.{body_at, Reading, got, read_by, read_at, plain_at}
-use Rattle.files.specs.declared.Record.{Record}
 use Rattle.files.specs.Fields.{number_fields, carried_fields, message_fields, size_of, values_at}
 use Rattle.files.specs.Frames.{Framing, framed, length_with, length_of, plain_of, plain_frame, kindless_of, outer_of, in_slot, unless_stopped, slotted_frame, frame_at}
-use Rattle.files.specs.Places.{place_after}
 use Rattle.files.specs.declared.Where.{Where}
 use Rattle.std.specs.Prelude.{None, Some, Result as OkOrErr, Ok, Err}
 use Rattle.files.specs.declared.Unreadable.{Unreadable}

@@ -16,11 +16,9 @@ use Rattle.files.specs.Bytes.{le_at, le_of}
 use Rattle.files.specs.Fields.{size_of, values_at, bytes_of}
 use Rattle.files.specs.Frames.{length_of, plain_of, plain_frame, kindless_of, outer_of, slotted_frame, frame_at}
 use Rattle.files.specs.Write.{written_of, left_of, written_at, left_at, gives_back, slot_gives, slot_leaves, number_with}
-use Rattle.files.specs.Bodies.{Reading, got, stopped}
+use Rattle.files.specs.Bodies.{got, stopped}
 use Rattle.files.specs.declared.Where.TheVariants.{Plain, Slot}
 use Rattle.files.specs.declared.Unwritten.TheVariants.{BadField, NoRoom}
-use Rattle.std.specs.Prelude.{Option, None, Some}
-use Rattle.files.specs.declared.Unreadable.{Unreadable}
 use Rattle.files.specs.declared.Unreadable.TheVariants.{CutShort, BadLength, UnknownKind}
 
 own : Number

@@ -9,13 +9,11 @@ use Rattle.files.specs.Fit.{answers, leaves}
 use Rattle.files.specs.Places.{place_after}
 use Rattle.files.specs.Words.{Says}
 use Rattle.files.specs.Write.{written_of, left_of, written_at, left_at, gives_back, slot_gives, slot_leaves}
-use Rattle.files.specs.Bodies.{Reading, got, stopped}
+use Rattle.files.specs.Bodies.{Reading}
 use Rattle.files.specs.declared.Reader.{Reader}
 use Rattle.files.specs.declared.Where.{Where}
 use Rattle.files.specs.declared.Where.TheVariants.{Plain, Slot}
 use Rattle.files.specs.declared.Unwritten.{Unwritten}
-use Rattle.std.specs.Prelude.{Option, None, Some, Ok, Err}
-use Rattle.files.specs.declared.Unreadable.{Unreadable}
 
 -- What `rev_listing` and `rev_dump` say, t being the listing or the dump: the number given back, and the bytes that the buffer then holds.
 abbrev pub Fitted : List ℕ → List ℕ → List ℕ → ℕ → List ℕ → Type 0

@@ -26,11 +26,10 @@ use Rattle.files.specs.Shown.{Ending, whole, unread, Contents, and_then, content
 use Rattle.files.specs.Shown.{Shown, shown_after, shown_of, shown_text, AnswersEntry, RefusesRecord}
 use Rattle.files.specs.Typed.{Entry}
 use Rattle.files.specs.Frames.{stop_number, Framing}
-use Rattle.files.specs.Bodies.{Reading, got, stopped}
+use Rattle.files.specs.Bodies.{Reading}
 use Rattle.files.proofs.Records.{Within, read_within}
 use Rattle.files.proofs.Unread.{unread_number}
-use Rattle.std.specs.Prelude.{Option, None, Some, Ok, Err}
-use Rattle.files.specs.declared.Unreadable.{Unreadable}
+use Rattle.std.specs.Prelude.{None, Some, Ok, Err}
 
 -- ---- Where something stands
 

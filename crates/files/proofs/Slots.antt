@@ -11,11 +11,10 @@ use Rattle.files.specs.Listing.{is_slot, names_slot, names_in, names_slots}
 use Rattle.files.specs.Places.{place_after, places_from, places_of}
 use Rattle.files.specs.Shown.{and_then, contents_from, contents_of, entries_of}
 use Rattle.files.specs.Typed.{Entry}
-use Rattle.files.specs.Bodies.{Reading, got, stopped}
+use Rattle.files.specs.Bodies.{Reading}
 use Rattle.files.specs.declared.Where.{Where}
 use Rattle.files.proofs.Shown.{Stands, stands, past, no_places, some_some}
-use Rattle.std.specs.Prelude.{Option, None, Some, Ok, Err}
-use Rattle.files.specs.declared.Unreadable.{Unreadable}
+use Rattle.std.specs.Prelude.{None, Some, Ok, Err}
 
 -- one of the entries names a slot
 abbrev some_names : List Entry → Bool

@@ -33,7 +33,7 @@ use Rattle.files.specs.Shown.{whole, contents_from, contents_of, entries_of, own
 use Rattle.files.specs.Typed.{AllBytes, TypedNumber, Typed, TypedWhere, Entry, Writable, file_of}
 use Rattle.files.specs.Words.{number_word}
 use Rattle.files.specs.Write.{number_of, bytes_written, gives_back, number_with, message_with}
-use Rattle.files.specs.Bodies.{Reading, got, stopped}
+use Rattle.files.specs.Bodies.{got}
 use Rattle.files.specs.declared.Where.{Where}
 use Rattle.files.specs.declared.Where.TheVariants.{Plain, Slot}
 use Rattle.files.specs.declared.Unwritten.{Unwritten}
@@ -53,8 +53,7 @@ use Rattle.files.proofs.Shown
 use Rattle.files.proofs.Shown.{Last}
 use Rattle.files.proofs.Slots
 use Rattle.files.proofs.TwoRooms
-use Rattle.std.specs.Prelude.{Option, None, Some, Ok, Err}
-use Rattle.files.specs.declared.Unreadable.{Unreadable}
+use Rattle.std.specs.Prelude.{Ok}
 
 -- ---- From the bytes to the bill
 

@@ -19,11 +19,11 @@ use Rattle.files.specs.Listing.{slot_found, slot_framed, after_frame, names_slot
 use Rattle.files.specs.Places.{place_after, places_from, places_of}
 use Rattle.files.specs.Frames.{frame_at}
 use Rattle.files.specs.Frames.{stop_number, Framing, framed}
-use Rattle.files.specs.Bodies.{Reading, got, stopped}
+use Rattle.files.specs.Bodies.{Reading}
 use Rattle.files.specs.declared.Where.{Where}
 use Rattle.files.proofs.Held.{Holds, holds_other, answered}
 use Rattle.files.proofs.Records.{Within, read_within, read_as}
-use Rattle.std.specs.Prelude.{Option, None, Some, Ok, Err}
+use Rattle.std.specs.Prelude.{None, Some, Ok, Err}
 use Rattle.files.specs.declared.Unreadable.{Unreadable}
 
 or_false : (b : Bool) → (b || false) ≡ b

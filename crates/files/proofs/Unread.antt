@@ -1,6 +1,6 @@
 -- A record that cannot be read has 5, 6 or 7.
 -- Assumes nothing.
-use Rattle.std.proofs.Common.{◌≡◌, ℕ, zero, suc, ◌+◌, ◌≤◌, List, length, subst, arith}
+use Rattle.std.proofs.Common.{◌≡◌, ℕ, zero, suc, ◌≤◌, List, length, subst, arith}
 use Rattle.std.specs.Prelude.{None, Some, Ok, Err}
 use Rattle.files.specs.Bodies.{Reading, stopped, read_at, plain_at}
 use Rattle.files.specs.Frames.{stop_number}

@@ -6,7 +6,7 @@ use Rattle.rows.specs.declared.Component.TheVariants.{Absent}
 use Rattle.rows.specs.declared.Nature.TheVariants.{National, International}
 use Rattle.rows.specs.declared.Event.TheVariants.{Received, Time}
 use Rattle.text.specs.Choose.{if_lt, if_le, if_eq, if_so}
-use Rattle.text.specs.Text.{ascii, last_digits, decimal, decimal_by, numbered}
+use Rattle.text.specs.Text.{ascii, last_digits, decimal, decimal_by, value_text, numbered}
 use Rattle.board.specs.Row.{empty_row}
 use Rattle.files.specs.Bodies.{nature_of, count_of, opening_at, ask_at, component_of, number_if, message_at, access_at, time_at, event_at}
 use Rattle.files.specs.Bodies.{read_at}
@@ -19,13 +19,11 @@ use Rattle.files.specs.Listing.{rest_of, records_of, listing_by, names_in, names
 use Rattle.files.specs.Messages.{operation_text, with_operation, text_if, with_digits, parts_text, values_text, carried_text, sent_text}
 use Rattle.files.specs.Messages.{number_text, released_text}
 use Rattle.files.specs.Places.{place_after, places_from, places_of}
-use Rattle.files.specs.Words.{code_word, digits_word, value_text, counted_word, number_word, role_word, comma_text, flag_text, flags_text}
+use Rattle.files.specs.Words.{code_word, digits_word, counted_word, number_word, role_word, comma_text, flag_text, flags_text}
 use Rattle.files.specs.Words.{flags_word, opening_words, asked_word, ask_words, name_word, operation_word, with_operation_word, unless_zero}
 use Rattle.files.specs.Words.{reject_words, unknown_words, with_number, values_words, message_words, told_word, access_words, entry_words}
-use Rattle.files.specs.Bodies.{Reading, got, stopped}
+use Rattle.files.specs.Bodies.{got, stopped}
 use Rattle.files.specs.declared.Where.TheVariants.{Plain}
-use Rattle.std.specs.Prelude.{Option, None, Some, Ok, Err}
-use Rattle.files.specs.declared.Unreadable.{Unreadable}
 use Rattle.files.specs.declared.Unreadable.TheVariants.{CutShort, BadLength, UnknownKind}
 
 -- 01, case L

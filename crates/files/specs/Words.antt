@@ -3,7 +3,7 @@
 -- Assumes nothing.
 use Rattle.std.specs.Prelude.{◌≡◌, ℕ, ◌%◌, Bool, true, List, [], ◌++◌}
 use Rattle.text.specs.Choose.{if_lt, if_eq, if_so}
-use Rattle.text.specs.Text.{ascii, decimal, decimal_by, numbered}
+use Rattle.text.specs.Text.{ascii, decimal, value_text, numbered}
 use Rattle.rows.specs.Valid.{in_range}
 use Rattle.rows.specs.declared.Component.{Component}
 use Rattle.rows.specs.declared.Component.TheVariants.{Absent, Invoke, Result, Error, Reject, Unknown}
@@ -25,10 +25,6 @@ code_word n = numbered (ascii " ") n
 -- in range: its digits, or that there is none
 unfoldable pub digits_word : Number → List ℕ
 digits_word n = if_eq n.count 0 (ascii " -") (with_digits (ascii " ") n)
-
--- a value in decimal: 64 bits have at most 20 digits
-unfoldable pub value_text : ℕ → List ℕ
-value_text n = decimal_by 20 n
 
 -- out of range: count and value, `+` before them where it is international
 unfoldable pub counted_word : Number → List ℕ

@@ -2,7 +2,7 @@
 ghost use Rattle.std.specs.Prelude.{◌≡◌, ◌+◌, ◌^◌, ◌<◌, ◌≤◌, true, [], ◌++◌, length};
 ghost use Rattle.text.specs.Choose.{if_so};
 ghost use Rattle.text.specs.Text.{Put, ascii};
-ghost use Rattle.files.specs.Words.{code_word, digits_word, value_text, counted_word, number_word, role_word, comma_text};
+ghost use Rattle.files.specs.Words.{code_word, digits_word, counted_word, number_word, role_word, comma_text};
 ghost use Rattle.files.specs.Words.{flags_text, flags_word, opening_words, asked_word, ask_words, name_word, operation_word};
 ghost use Rattle.files.specs.Words.{with_operation_word, unless_zero, reject_words, unknown_words, component_words, with_number};
 ghost use Rattle.files.specs.Words.{values_words, message_words, told_word, access_words, event_words, where_words, entry_words, Says};
@@ -35,23 +35,6 @@ fn put_digits_word(out: &mut [u8], at: usize, n: Number) -> usize
     }
 }
 
-// A value in decimal: the last 9 or 18 digits apart, since the first are a number of 32 bits then.
-fn put_value(out: &mut [u8], at: usize, n: u64) -> usize
-    requires { at < 2 ^ 61 }
-    ensures put { Put out.old at (value_text n) out.new result }
-    ensures upper_bound { result ≤ at + 28 }
-{
-    if n < 1000000000 {
-        text::put_dec(out, at, n as u32)
-    } else if n < 1000000000000000000 {
-        let to = text::put_dec(out, at, (n / 1000000000) as u32);
-        text::put_digits(out, to, n, 9)
-    } else {
-        let to = text::put_dec(out, at, (n / 1000000000000000000) as u32);
-        text::put_digits(out, to, n, 18)
-    }
-}
-
 // One out of range: its sign, its count and its value.
 fn put_counted_word(out: &mut [u8], at: usize, n: Number) -> usize
     requires { at < 2 ^ 60 }
@@ -62,7 +45,7 @@ fn put_counted_word(out: &mut [u8], at: usize, n: Number) -> usize
     to = put_sign(out, to, n.nature);
     to = text::put_dec(out, to, n.count as u32);
     to = text::put(out, to, b':');
-    put_value(out, to, n.value)
+    text::put_value(out, to, n.value)
 }
 
 fn put_number(out: &mut [u8], at: usize, n: Number) -> usize

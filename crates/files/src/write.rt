@@ -225,6 +225,9 @@ fn put_time(out: &mut [u8], seconds: u32) -> usize
 
 // ---- Each kind: 3, then 8, then the record
 
+// Kept: a writer for each kind, and not one of an Event that a host's call makes first: 64 KiB of expiries and of times, written one by one,
+// count 294,911 and 180,240 instructions so, and 819,231 and 720,946 by one writer.
+
 // What refuses an event: the field of it that is bad; or a record longer than the room.
 fn judge(bad: Option<u8>, size: usize, room: usize) -> Result<(), Unwritten>
     ensures field { IfSome bad (λ k. result ≡ Err (BadField k)) }

@@ -1,10 +1,7 @@
--- After i turns the first i bytes of the word are put.
-use Rattle.std.proofs.Common.{◌-◌, ◌≤◌, length, take}
+-- After some turns as many bytes of the word are put.
+use Rattle.std.proofs.Common.{take}
 use Rattle.text.specs.Text.{Put}
 use Rattle.text.proofs.put_each.Given as goal
 
-abbrev pub invariant-loop-i : goal.invariant-loop-i
-invariant-loop-i l = (l.i ≤ length l.word) × Put l.fn.out l.at (take l.i l.word) l.out l.to
-
-abbrev pub decreases-loop-i : goal.decreases-loop-i
-decreases-loop-i l = length l.word - l.i
+abbrev pub invariant-loop-b : goal.invariant-loop-b
+invariant-loop-b l = Put l.fn.out l.at (take l.b-index l.word) l.out l.to

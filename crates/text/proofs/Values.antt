@@ -3,10 +3,9 @@
 use Rattle.std.proofs.Common.{◌≡◌, ℕ, zero, suc, ◌+◌, ◌-◌, ◌/◌, ◌^◌, ◌<◌, ◌≤◌, List, [], ◌∷◌, ◌++◌, sym, refl, ap, ◌∙◌, append_assoc, append-nil, pow-suc, zero-add, div-one, arith}
 use native.Mathlib.Nat.{pow-succ', one-le-pow, div-div-eq-div-mul}
 use Rattle.text.specs.Choose.{if_lt}
-use Rattle.text.specs.Text.{Put, digit_of, last_digits, decimal_by, decimal}
+use Rattle.text.specs.Text.{Put, digit_of, last_digits, decimal_by, decimal, value_text}
 use Rattle.text.proofs.Cases.{yes_lt, no_lt}
 use Rattle.text.proofs.Laws.{put_as}
-use Rattle.files.specs.Words.{value_text}
 
 -- where the digits have room, more room changes nothing
 by_room : (k m n : ℕ) → k ≤ m → n < 10 ^ suc k → decimal_by (suc k) n ≡ decimal_by (suc m) n

@@ -1,7 +1,7 @@
 use Rattle.std.proofs.Common.{arith}
 use Rattle.text.proofs.Laws.{put_after}
-use Rattle.files.proofs.Values.{put_short, put_long}
-use Rattle.files.proofs.words.put_value.Goals as goal
+use Rattle.text.proofs.Values.{put_short, put_long}
+use Rattle.text.proofs.put_value.Goals as goal
 
 pub returns-then-n-lt1000000000-clause-put : goal.returns-then-n-lt1000000000-clause-put
 returns-then-n-lt1000000000-clause-put c = put_short _ _ _ _ _ (omega arith) c.put_dec.ensures.put
