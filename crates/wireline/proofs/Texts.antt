@@ -2,14 +2,14 @@
 -- Assumes nothing.
 use Rattle.std.proofs.Common.{◌≡◌, ◌==◌, Bool, ℕ, ◌/◌, ◌%◌, List, [], ◌∷◌, ◌++◌, ap}
 use Rattle.text.specs.Choose.{if_so, if_eq}
-use Rattle.text.specs.Text.{Put, ascii, last_digits, decimal, numbered}
+use Rattle.text.specs.Text.{Put, ascii, last_digits, decimal, value_text, numbered}
 use Rattle.text.proofs.Laws.{put_after, put_as}
 use Rattle.wire.specs.Texts.{text_if}
 use Rattle.wire.specs.declared.Component.{Component}
 use Rattle.wire.specs.declared.Number.{Number}
 use Rattle.wireline.specs.Answers.{refused_text, read_text}
 use Rattle.wireline.specs.Hex.{hex_digit, octet_text}
-use Rattle.wireline.specs.Lines.{value_text, digits_text, counted_text, number_text, party_text, duration_text, flags_text, values_text}
+use Rattle.wireline.specs.Lines.{digits_text, counted_text, number_text, party_text, duration_text, flags_text, values_text}
 use Rattle.wireline.specs.Lines.{head_text, id_text, line_in, line_text}
 
 -- a word and a number, by tests

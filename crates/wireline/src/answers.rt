@@ -5,7 +5,7 @@ ghost use Rattle.wire.specs.Grammar.{component_of};
 ghost use Rattle.wire.specs.Parameters.{walk_of, parameter_of};
 ghost use Rattle.wireline.specs.Answers.{refused_text, read_text, answer_text, own_line, Held, walk_text, parameter_text};
 
-use crate::lines::{put_line, put_value};
+use crate::lines::put_line;
 use text::put;
 use wire::{Component, Whole};
 
@@ -14,7 +14,7 @@ fn put_refused(out: &mut [u8], n: u8, place: usize) -> usize
 {
     let mut to = text::put_numbered(out, 0, b"REFUSED ", n as u32);
     to = put(out, to, b' ');
-    to = put_value(out, to, place as u64);
+    to = text::put_value(out, to, place as u64);
     put(out, to, b'\n')
 }
 
@@ -24,7 +24,7 @@ fn put_read(out: &mut [u8], c: Component, next: usize) -> usize
 {
     let mut to = put_line(out, 0, c);
     to = text::put_word(out, to, b" NEXT ");
-    to = put_value(out, to, next as u64);
+    to = text::put_value(out, to, next as u64);
     put(out, to, b'\n')
 }
 

@@ -2,7 +2,7 @@
 ghost use Rattle.std.specs.Prelude.{◌+◌, ◌^◌, ◌<◌, ◌≤◌, [], ◌++◌, length};
 ghost use Rattle.text.specs.Choose.{if_so};
 ghost use Rattle.text.specs.Text.{Put, ascii, numbered};
-ghost use Rattle.wireline.specs.Lines.{value_text, digits_text, counted_text};
+ghost use Rattle.wireline.specs.Lines.{digits_text, counted_text};
 ghost use Rattle.wireline.specs.Lines.{flags_text, values_text, operation_text, with_operation, head_text, id_text, line_in, line_text};
 
 use crate::hex::put_octet;
@@ -10,23 +10,6 @@ use wire::{Component, Number};
 
 // The forms of a line's numbers, where each is said by its digits.
 pub(crate) const DIGITS: u8 = 0;
-
-// A value in decimal: the last 9 or 18 digits apart, since the first are a number of 32 bits then.
-pub(crate) fn put_value(out: &mut [u8], at: usize, n: u64) -> usize
-    requires { at < 2 ^ 61 }
-    ensures put { Put out.old at (value_text n) out.new result }
-    ensures upper_bound { result ≤ at + 28 }
-{
-    if n < 1000000000 {
-        return text::put_dec(out, at, n as u32);
-    }
-    if n < 1000000000000000000 {
-        let to = text::put_dec(out, at, (n / 1000000000) as u32);
-        return text::put_digits(out, to, n, 9);
-    }
-    let to = text::put_dec(out, at, (n / 1000000000000000000) as u32);
-    text::put_digits(out, to, n, 18)
-}
 
 // A word where its part is present.
 fn put_if(out: &mut [u8], at: usize, present: bool, word: &[u8]) -> usize
@@ -60,7 +43,7 @@ fn put_counted(out: &mut [u8], at: usize, n: Number) -> usize
     let mut to = put_if(out, at, n.count / 128 == 1, b"+");
     to = text::put_dec(out, to, u32::from(n.count % 128));
     to = text::put(out, to, b':');
-    put_value(out, to, n.value)
+    text::put_value(out, to, n.value)
 }
 
 fn put_number(out: &mut [u8], at: usize, counted: bool, n: Number) -> usize
