@@ -1,13 +1,13 @@
 -- The line of an action, by what it is; texts that go by other tests than an equality.
 -- Assumes nothing.
-use Rattle.std.proofs.Common.{◌≡◌, ℕ, ◌<◌, ◌≤◌, Bool, true, false, List, sym, refl, ◌∙◌}
+use Rattle.std.proofs.Common.{◌≡◌, ℕ, ◌<◌, ◌≤◌, Bool, true, false, List, refl}
 use Rattle.text.specs.Choose.{if_lt, if_so}
 use Rattle.text.specs.Text.{Put}
 use Rattle.text.proofs.Cases.{yes_lt, no_lt, yes_so, no_so}
-use Rattle.text.proofs.Laws.{put_none, put_as, put_by}
+use Rattle.text.proofs.Laws.{put_as, put_by}
 use Rattle.rows.specs.declared.Act.{Act}
 use Rattle.rows.specs.declared.Note.{Note}
-use Rattle.files.specs.Lines.{slot_text, action_text}
+use Rattle.files.specs.Lines.{action_text}
 
 pub action_by : (m : Note) (x y : Act) (a b : List ℕ) (i j : ℕ) → x ≡ y → Put a i (action_text m y) b j → Put a i (action_text m x) b j
 action_by m x y a b i j e p = put_by (action_text m) x y a b i j e p

@@ -11,7 +11,7 @@ pub(crate) fn byte(s: &[u8], i: usize) -> u8
 }
 
 // Bytes that are there: no test of each, so that a field is read at once.
-// Kept, here and below: a function for each width. One with the width as a parameter, whose bytes `from_le_bytes` takes, was proved, and a
+// Kept: a function for each width, here and below. One with the width as a parameter, whose bytes `from_le_bytes` takes, was proved, and a
 // listing then counts 3 to 7 instructions more in a hundred (of messages 2,902,198 for 2,724,622).
 #[tactic(auto, unfolding(crate::specs::Bytes::le_at))]
 fn two(s: &[u8], i: usize) -> u32

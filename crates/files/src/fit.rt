@@ -4,5 +4,5 @@
 pub const LONGEST: usize = 65536;
 
 // 01, the number given back for a longer file, or for a buffer too short.
-// Kept, as what `rev_listing` and `rev_dump` answer: a host in C is given a length or this number (rev.h).
+// Kept: a number, as what `rev_listing` and `rev_dump` answer, since a host in C is given a length or this (rev.h).
 pub const TOO_LONG: usize = 8;

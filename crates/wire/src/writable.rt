@@ -1,5 +1,5 @@
 // What can be written: a component whose fields are all in range; and the first of them that is not.
-#![tactic(auto, unfolding(text::specs::Choose::if_so, text::specs::Choose::if_lt, text::specs::Choose::if_eq, crate::specs::Writable::range_ok, crate::specs::Writable::both_ok, crate::specs::Writable::item_ok, crate::specs::Writable::argument_ok, crate::specs::Writable::result_ok, crate::specs::Writable::places_ok, crate::specs::Writable::unnamed_ok, crate::specs::Writable::untimed_ok, crate::specs::Writable::parts_ok, crate::specs::Writable::number_ok, crate::specs::Writable::duration_ok, crate::specs::Writable::id_ok))]
+#![tactic(auto, unfolding(text::specs::Choose::if_so, text::specs::Choose::if_lt, text::specs::Choose::if_eq, crate::specs::Writable::range_ok, crate::specs::Writable::item_ok, crate::specs::Writable::argument_ok, crate::specs::Writable::result_ok, crate::specs::Writable::places_ok, crate::specs::Writable::number_ok, crate::specs::Writable::duration_ok, crate::specs::Writable::id_ok))]
 
 ghost use Rattle.std.specs.Prelude.{◌≡◌, ◌==◌, ◌||◌, ◌&&◌, not, ◌+◌, ◌/◌, ◌%◌};
 ghost use Rattle.wire.specs.Writable.{kind_ok, item_ok, argument_ok, result_ok, places_ok, parts_ok, number_ok, duration_ok, id_ok, ordinal, bad_of};

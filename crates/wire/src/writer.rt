@@ -286,6 +286,7 @@ pub fn write_component(c: Component, out: &mut [u8]) -> Result<usize, Unwritten>
 }
 
 // The same for a whole parameter of this one component.
+// Kept: one function over `impl Fn(&mut [u8], usize, Component) -> usize` would be no shorter than these two, and its clauses longer.
 pub fn write_parameter(c: Component, out: &mut [u8]) -> Result<usize, Unwritten>
     ensures { (result ≡ written_of (bad_of c) (parameter_text c) out.old)
         × (out.new ≡ leaves_of (bad_of c) (parameter_text c) out.old) }

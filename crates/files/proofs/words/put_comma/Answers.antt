@@ -1,4 +1,4 @@
-use Rattle.std.proofs.Common.{ℕ, [], ◌∷◌, sym, ap}
+use Rattle.std.proofs.Common.{ℕ, [], ◌∷◌, ap}
 use Rattle.text.proofs.Laws.{put_as, put_yes, put_no}
 use Rattle.files.specs.Words.{comma_text}
 use Rattle.files.proofs.words.put_comma.Goals as goal

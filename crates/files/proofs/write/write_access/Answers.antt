@@ -1,4 +1,4 @@
-use Rattle.std.proofs.Common.{arith, refl}
+use Rattle.std.proofs.Common.{arith}
 use Rattle.std.proofs.lemmas.Result.{err_from_is_err_and}
 use Rattle.rows.specs.declared.Event.TheVariants.{FromAccess}
 use Rattle.files.proofs.Puts.{sizes, sized, judged_as, whole_as}
@@ -6,15 +6,17 @@ use Rattle.files.proofs.write.write_access.Goals as goal
 
 pub put_access-requires : goal.put_access-requires
 put_access-requires c =
-    let f = judged_as (FromAccess c.args.item c.args.error) c.args.out.now _ (sized (FromAccess c.args.item c.args.error) _ sizes.2) _ _ _ c.in_ok-judge.was c.access_bad.ensures c.judge.ensures in
+    let z = sized (FromAccess c.args.item c.args.error) _ sizes.2 in
+    let f = judged_as _ _ _ z _ _ _ c.in_ok-judge.was c.access_bad.ensures c.judge.ensures in
     omega (arith, f.1)
 
 pub returns : goal.returns
 returns c =
     let z = sized (FromAccess c.args.item c.args.error) _ sizes.2 in
-    whole_as (FromAccess c.args.item c.args.error) _ _ z (judged_as (FromAccess c.args.item c.args.error) c.args.out.now _ (sized (FromAccess c.args.item c.args.error) _ sizes.2) _ _ _ c.in_ok-judge.was c.access_bad.ensures c.judge.ensures) _ _ c.put_access.ensures
+    whole_as _ _ _ z (judged_as _ _ _ z _ _ _ c.in_ok-judge.was c.access_bad.ensures c.judge.ensures) _ _ c.put_access.ensures
 
 pub returns-in_err-judge : goal.returns-in_err-judge
 returns-in_err-judge c =
+    let z = sized (FromAccess c.args.item c.args.error) _ sizes.2 in
     let p = err_from_is_err_and c.from_residual.result c.from_residual.ensures.1 in
-    rw (p.1, p.2) (judged_as (FromAccess c.args.item c.args.error) c.args.out.now _ (sized (FromAccess c.args.item c.args.error) _ sizes.2) _ _ _ c.in_err-judge.was c.access_bad.ensures c.judge.ensures)
+    rw (p.1, p.2) (judged_as _ _ _ z _ _ _ c.in_err-judge.was c.access_bad.ensures c.judge.ensures)

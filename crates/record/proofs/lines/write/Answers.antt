@@ -1,4 +1,3 @@
-use Rattle.std.proofs.Common.{◌≤◌, length, IfOk}
 use Rattle.record.proofs.Fits.{plain_within, slotted_within}
 use Rattle.record.proofs.lines.write.Goals as goal
 
