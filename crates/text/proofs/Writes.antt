@@ -8,6 +8,8 @@ use lib.ListN.{length, length-append}
 use lib.Seq.{sets, length-sets}
 use Rattle.std.proofs.lemmas.Bool.{cases_lt}
 use Rattle.text.specs.Text.{Put, digit_of, decimal, last_digits}
+use Rattle.text.specs.Choose.{if_eq}
+use Rattle.text.proofs.Cases.{yes_eq, no_eq}
 use Rattle.text.proofs.Numbers.{by_last, count_is}
 use Rattle.text.proofs.Laws.{put_past, sets_append}
 use Rattle.text.specs.Page.{Wrote, moved}
@@ -57,6 +59,13 @@ put_wrote e f p = record { same = e; bytes = λ h. (p h).bytes; place = f }
 pub wrote_by : {A : Type 0} (f : A → List ℕ) (x y : A) (a b : Page) → x ≡ y → Wrote (f y) a b → Wrote (f x) a b
 wrote_by f x y a b e p = wrote_as (ap f (sym e)) p
 
+-- a text that goes by a test
+pub wrote_yes : (m n : ℕ) (a b : Page) (s t : List ℕ) → m ≡ n → Wrote s a b → Wrote (if_eq m n s t) a b
+wrote_yes m n a b s t e p = wrote_as (yes_eq m n s s t e refl) p
+
+pub wrote_no : (m n : ℕ) (a b : Page) (s t : List ℕ) → (m ≡ n → ⊥) → Wrote t a b → Wrote (if_eq m n s t) a b
+wrote_no m n a b s t f p = wrote_as (no_eq m n t s t f refl) p
+
 -- the digits of a number are its last ones, as many as there are
 pub all_digits : (n k : ℕ) → k ≡ length (decimal n) → last_digits k n ≡ decimal n
 unfolding decimal
@@ -66,4 +75,4 @@ pub one_digit : (n d : ℕ) → d ≡ digit_of n → n < 10 → d ∷ [] ≡ dec
 unfolding last_digits
 one_digit n d e h = ap (λ (x : ℕ). x ∷ []) e ∙ all_digits n 1 (count_is 0 n (omega arith))
 
-pub ruleset writes = (wrote_none, wrote_after)
+pub ruleset writes = (wrote_none, wrote_after, wrote_yes, wrote_no)
