@@ -1,7 +1,7 @@
 -- The bytes that the writer puts, piece by piece, and their lengths.
 -- Assumes nothing.
 use mathlib.Core.Path.{◌≡◌, refl, sym, ap, ◌∙◌}
-use mathlib.Core.List.{List, [], ◌∷◌, ◌++◌, append-nil}
+use mathlib.Core.List.{List, [], ◌∷◌, ◌++◌}
 use mathlib.Core.Logic.{◌⊎◌, inl, inr}
 use Prim.Native.Nat.{ℕ, zero, suc, ◌+◌, ◌-◌, ◌/◌, ◌%◌, ◌^◌, ◌≤◌, ◌<◌}
 use native.Mathlib.Nat.{add-zero, zero-add}
@@ -16,9 +16,9 @@ use Rattle.text.specs.Page.{Wrote}
 use Rattle.text.specs.declared.page.Page.{Page}
 use Rattle.std.proofs.lemmas.Bool.{cases_lt}
 use Rattle.text.proofs.Cases.{no_lt, yes_eq, no_eq, both_lt, both_eq}
-use Rattle.text.proofs.Laws.{put_none, put_before, put_as, put_past, set_sets}
+use Rattle.text.proofs.Laws.{put_before, put_as, put_past, set_sets}
 use Rattle.text.proofs.Writes.{wrote_after}
-use Rattle.wire.specs.Texts.{element_text, text_if, pair_byte, octets_of, padded_of, number_text, parts_text, seq_text, id_text, rejected_text, code_text, invoke_text, held_text, result_text, error_text, reject_text, component_text, parameter_text, written_of, leaves_of}
+use Rattle.wire.specs.Texts.{element_text, pair_byte, octets_of, padded_of, number_text, parts_text, seq_text, id_text, rejected_text, code_text, invoke_text, held_text, result_text, error_text, reject_text, component_text, parameter_text, written_of, leaves_of}
 use Rattle.wire.specs.declared.Component.{Component}
 use Rattle.wire.specs.declared.Number.{Number}
 use Rattle.wire.specs.declared.Unwritten.{Unwritten}
