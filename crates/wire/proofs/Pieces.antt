@@ -4,25 +4,21 @@ use mathlib.Core.Path.{◌≡◌, refl, sym, ap, ◌∙◌}
 use mathlib.Core.List.{List, [], ◌∷◌, ◌++◌}
 use mathlib.Core.Logic.{◌⊎◌, inl, inr}
 use Prim.Native.Nat.{ℕ, zero, suc, ◌+◌, ◌-◌, ◌/◌, ◌%◌, ◌^◌, ◌≤◌, ◌<◌}
-use native.Mathlib.Nat.{add-zero, zero-add}
+use native.Mathlib.Nat.{add-zero}
 use native.Mathlib.Numerals.{add-one}
 use native.Mathlib.Omega.{arith}
-use lib.ListN.{length, drop, set, length-append}
-use lib.Seq.{append_snoc, sets, sets-eq, set_out, set-set}
-use Rattle.std.proofs.Common.{Result, Ok, Err}
-use Rattle.text.specs.Choose.{if_lt, if_eq}
+use lib.ListN.{length, take, set, length-append}
+use lib.Seq.{append_snoc, sets, set_out, set-set}
 use Rattle.text.specs.Text.{Put}
 use Rattle.text.specs.Page.{Wrote}
 use Rattle.text.specs.declared.page.Page.{Page}
 use Rattle.std.proofs.lemmas.Bool.{cases_lt}
-use Rattle.text.proofs.Cases.{no_lt, yes_eq, no_eq, both_lt, both_eq}
-use Rattle.text.proofs.Laws.{put_before, put_as, put_past, set_sets}
-use Rattle.text.proofs.Writes.{wrote_after}
-use Rattle.wire.specs.Texts.{element_text, pair_byte, octets_of, padded_of, number_text, parts_text, seq_text, id_text, rejected_text, code_text, invoke_text, held_text, result_text, error_text, reject_text, component_text, parameter_text, written_of, leaves_of}
+use Rattle.text.proofs.Cases.{yes_eq, no_eq}
+use Rattle.text.proofs.Laws.{put_before, put_as, put_past, put_first, set_sets}
+use Rattle.text.proofs.Writes.{wrote_after, wrote_put}
+use Rattle.wire.specs.Texts.{element_text, pair_byte, octets_of, padded_of, number_text, parts_text, seq_text, id_text, rejected_text, code_text, invoke_text, held_text, result_text, error_text, reject_text, component_text, parameter_text}
 use Rattle.wire.specs.declared.Component.{Component}
 use Rattle.wire.specs.declared.Number.{Number}
-use Rattle.wire.specs.declared.Unwritten.{Unwritten}
-use Rattle.wire.specs.declared.Unwritten.TheVariants.{BadField, NoRoom}
 
 -- ---- lengths
 
@@ -137,39 +133,9 @@ parameter_is c = ap (λ (n : ℕ). 50 ∷ n ∷ 145 ∷ component_text c) (sym (
 pub measured : {a b : Page} (t : List ℕ) → length t < 2 ^ 63 → a.at ≡ 0 → Wrote t a b → b.at ≡ length t
 measured t h e p = omega (arith, p.place)
 
--- ---- what is answered and left, of a text t whose length and room were looked at
-
-module _ (bad : ℕ) (t out : List ℕ) (n : ℕ) (f : n ≡ length t) where
-  abbrev Looked : Result ℕ Unwritten → Type 0
-  Looked w = w ≡ if_eq bad 0 (if_lt (length out) n (Err NoRoom) (Ok n)) (Err (BadField bad))
-
-  pub write_not : (u : Unwritten) → Looked (Err u) → (Err u ≡ written_of bad t out) × (out ≡ leaves_of bad t out)
-  unfolding written_of leaves_of
-  write_not u e = (
-    e ∙ rw f,
-    both_eq bad 0 (λ (l : List ℕ). out ≡ l) _ _
-        (λ h. both_lt (length out) (length t) (λ (l : List ℕ). out ≡ l) _ _ (λ _. refl)
-        (λ g. let d : Ok n ≡ if_eq bad 0 (if_lt (length out) n (Err NoRoom) (Ok n)) (Err (BadField bad)) = yes_eq _ _ _ _ _ h (no_lt _ _ _ _ _ (omega arith) refl) in
-        cc))
-        (λ _. refl),
-  )
-
-  pub write_room : (k : ℕ) → Looked (Ok k) → (bad ≡ 0) × (n ≤ length out) × (k ≡ n)
-  write_room k =
-      both_eq bad 0 (λ (w : Result ℕ Unwritten). Ok k ≡ w → (bad ≡ 0) × (n ≤ length out) × (k ≡ n)) _ _
-      (λ h. both_lt (length out) n (λ (w : Result ℕ Unwritten). Ok k ≡ w → (bad ≡ 0) × (n ≤ length out) × (k ≡ n)) _ _ (λ _ e. cc)
-      (λ g e. (h, g, cc)))
-      (λ _ e. cc)
-
-  -- t, put on a page of the whole buffer from its start
-  pub write_fits : (k : ℕ) (new : List ℕ) (a b : Page) → Looked (Ok k) → length out < 2 ^ 63 → a.at ≡ 0 → a.out.now ≡ out → Wrote t a b → new ≡ b.out.now
-      → (Ok k ≡ written_of bad t out) × (new ≡ leaves_of bad t out)
-  unfolding written_of leaves_of
-  write_fits k new a b e l z g p last =
-      let w = write_room k e in
-      let h : length a.out.now < 2 ^ 63 = rw g l in
-      let q : b.out.now ≡ sets out 0 t = p.bytes h ∙ ap (λ (i : ℕ). sets a.out.now i t) z ∙ ap (λ (r : List ℕ). sets r 0 t) g in (
-        e ∙ rw f,
-        yes_eq _ _ _ _ _ w.0
-            (no_lt _ _ _ _ _ (omega arith) (last ∙ q ∙ sets-eq t out 0 (omega arith) ∙ ap (λ (k : ℕ). t ++ drop k out) (zero-add (length t)))),
-      )
+-- what was put on a page from its start, all of it, is what the page's buffer x begins with
+pub begun : {a b : Page} (t x : List ℕ) → length t ≤ length a.out.now → length a.out.now < 2 ^ 63 → a.at ≡ 0 → Wrote t a b → x ≡ b.out.now → take b.at x ≡ t
+begun {a} {b} t x h l z p e =
+    let k : a.at + length t < 2 ^ 63 = omega arith in
+    let q : Put a.out.now 0 t b.out.now b.at = rw z at (wrote_put l k p) in
+    rw e (put_first (omega (arith, p.place)) q)

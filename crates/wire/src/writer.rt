@@ -1,5 +1,5 @@
 // A component's bytes, put on a page of `text`. An element's tag is put first, and a byte that is set to its length when its contents stand.
-// A page over no bytes measures.
+// A text is put on a page of the longest one's size, and given to a host that has room for it.
 ghost use Rattle.std.specs.Prelude.{◌≡◌, ◌∷◌, [], ◌+◌, ◌-◌, ◌/◌, ◌%◌, ◌<◌, ◌^◌, set};
 ghost use Rattle.text.specs.Choose.{if_so, if_lt, if_eq};
 ghost use Rattle.text.specs.Text.{Put};
@@ -246,14 +246,18 @@ fn put_parameter(page: &mut Page<'_>, c: Component)
 
 // ---- what a host is given
 
-// Whether a text of this length, of this component, can be written into this room: its first bad field is told, then too little room.
-fn fits(c: Component, size: usize, room: usize) -> Result<usize, Unwritten>
-    ensures { result ≡ if_eq (bad_of c) 0 (if_lt room size (Err NoRoom) (Ok size)) (Err (BadField (bad_of c))) }
+// What is given of a component's text: the first bad field of what cannot be written, then too little room; else its bytes.
+fn give(c: Component, text: &[u8], out: &mut [u8]) -> Result<usize, Unwritten>
+    ensures { (result ≡ written_of (bad_of c) text.now out.old)
+        × (out.new ≡ leaves_of (bad_of c) text.now out.old) }
 {
     match bad_field(c) {
         Some(k) => Err(Unwritten::BadField(k)),
-        None if room < size => Err(Unwritten::NoRoom),
-        None => Ok(size),
+        None if out.len() < text.len() => Err(Unwritten::NoRoom),
+        None => {
+            out[..text.len()].copy_from_slice(text);
+            Ok(text.len())
+        }
     }
 }
 
@@ -262,12 +266,11 @@ pub fn write_component(c: Component, out: &mut [u8]) -> Result<usize, Unwritten>
     ensures { (result ≡ written_of (bad_of c) (component_text c) out.old)
         × (out.new ≡ leaves_of (bad_of c) (component_text c) out.old) }
 {
-    let mut size = Page::new(&mut []);
-    put_component(&mut size, c);
-    let n = fits(c, size.at, out.len())?;
-    let mut page = Page::new(out);
+    let mut bytes = [0; 168];
+    let mut page = Page::new(&mut bytes);
     put_component(&mut page, c);
-    Ok(n)
+    let n = page.at;
+    give(c, &bytes[..n], out)
 }
 
 // The same for a whole parameter of this one component.
@@ -275,10 +278,9 @@ pub fn write_parameter(c: Component, out: &mut [u8]) -> Result<usize, Unwritten>
     ensures { (result ≡ written_of (bad_of c) (parameter_text c) out.old)
         × (out.new ≡ leaves_of (bad_of c) (parameter_text c) out.old) }
 {
-    let mut size = Page::new(&mut []);
-    put_parameter(&mut size, c);
-    let n = fits(c, size.at, out.len())?;
-    let mut page = Page::new(out);
+    let mut bytes = [0; 171];
+    let mut page = Page::new(&mut bytes);
     put_parameter(&mut page, c);
-    Ok(n)
+    let n = page.at;
+    give(c, &bytes[..n], out)
 }
