@@ -1,23 +1,24 @@
 -- The bytes that the writer puts, piece by piece, and their lengths.
 -- Assumes nothing.
 use mathlib.Core.Path.{◌≡◌, refl, sym, ap, ◌∙◌}
-use mathlib.Core.List.{List, [], ◌∷◌, ◌++◌, append-nil}
-use Prim.Native.Nat.{ℕ, zero, suc, ◌+◌, ◌-◌, ◌/◌, ◌%◌, ◌≤◌}
-use native.Mathlib.Nat.{add-zero, zero-add}
+use mathlib.Core.List.{List, [], ◌∷◌, ◌++◌}
+use mathlib.Core.Logic.{◌⊎◌, inl, inr}
+use Prim.Native.Nat.{ℕ, zero, suc, ◌+◌, ◌-◌, ◌/◌, ◌%◌, ◌^◌, ◌≤◌, ◌<◌}
+use native.Mathlib.Nat.{add-zero}
 use native.Mathlib.Numerals.{add-one}
 use native.Mathlib.Omega.{arith}
-use lib.ListN.{length, drop, length-append}
-use lib.Seq.{append_snoc, sets-eq}
-use Rattle.std.proofs.Common.{Result, Ok, Err}
-use Rattle.text.specs.Choose.{if_lt, if_eq}
+use lib.ListN.{length, take, set, length-append}
+use lib.Seq.{append_snoc, sets, set_out, set-set}
 use Rattle.text.specs.Text.{Put}
-use Rattle.text.proofs.Cases.{no_lt, yes_eq, no_eq, both_lt, both_eq}
-use Rattle.text.proofs.Laws.{put_none, put_before, put_as}
-use Rattle.wire.specs.Texts.{element_text, text_if, pair_byte, octets_of, padded_of, number_text, parts_text, seq_text, id_text, rejected_text, code_text, invoke_text, held_text, result_text, error_text, reject_text, component_text, parameter_text, written_of, leaves_of}
+use Rattle.text.specs.Page.{Wrote}
+use Rattle.text.specs.declared.page.Page.{Page}
+use Rattle.std.proofs.lemmas.Bool.{cases_lt}
+use Rattle.text.proofs.Cases.{yes_eq, no_eq}
+use Rattle.text.proofs.Laws.{put_before, put_as, put_past, put_first, set_sets}
+use Rattle.text.proofs.Writes.{wrote_after, wrote_put}
+use Rattle.wire.specs.Texts.{element_text, pair_byte, octets_of, padded_of, number_text, parts_text, seq_text, id_text, rejected_text, code_text, invoke_text, held_text, result_text, error_text, reject_text, component_text, parameter_text}
 use Rattle.wire.specs.declared.Component.{Component}
 use Rattle.wire.specs.declared.Number.{Number}
-use Rattle.wire.specs.declared.Unwritten.{Unwritten}
-use Rattle.wire.specs.declared.Unwritten.TheVariants.{BadField, NoRoom}
 
 -- ---- lengths
 
@@ -93,54 +94,48 @@ module _ {old new : List ℕ} {at v m left rest : ℕ} (i : Octets old at v m ne
 
 -- ---- elements
 
--- an element, whose contents were put first
-pub element_as : {a b c t : List ℕ} {at end r : ℕ} (tag : ℕ) → r ≡ end → Put a (at + 2) t b end → Put b at (tag ∷ (end - (at + 2)) ∷ []) c (at + 2)
-    → Put a at (element_text tag t) c r
+-- a byte that is set after the bytes behind it
+set_late : (l : List ℕ) (i x n : ℕ) (t : List ℕ) → set (sets l i (x ∷ 0 ∷ t)) (i + 1) n ≡ sets l i (x ∷ n ∷ t)
+set_late l i x n t =
+    ap (λ (j : ℕ). set (sets l i (x ∷ 0 ∷ t)) j n) (add-one i)
+    ∙ set_sets (set (set l i x) (suc i) 0) (suc i) (suc (suc i)) n t (omega arith)
+    ∙ ap (λ (m : List ℕ). sets m (suc (suc i)) t) (set-set (set l i x) (suc i) 0 n)
+
+-- an element: its tag and room for its length, its contents t, and the length set when these stand
+pub element_wrote : (tag : ℕ) {a b c d : Page} {t : List ℕ} {body : ℕ} → length t < 256 → Wrote (tag ∷ 0 ∷ []) a b → body ≡ b.at → Wrote t b c
+    → d.out.ghost_name ≡ c.out.ghost_name → d.out.now ≡ set c.out.now (body - 1) ((c.at - body) % 256) → d.at ≡ c.at → Wrote (element_text tag t) a d
 unfolding element_text
-element_as {t = t} {at = at} {end = end} tag f q p =
-    let e : end - (at + 2) ≡ length t = omega (arith, q.place) in
-    rw f (put_as (ap (λ (n : ℕ). tag ∷ n ∷ t) e) (put_before refl p q))
+element_wrote tag {a} {b} {c} {d} {t} {body} h p e q same bytes place =
+    let w : Wrote (tag ∷ 0 ∷ t) a c = wrote_after q p in
+    record {
+      same = same ∙ w.same;
+      bytes = λ k. bytes ∙ ap (λ (l : List ℕ). set l (body - 1) ((c.at - body) % 256)) (w.bytes k) ∙ go k (cases_lt 18446744073709551615 (a.at + 2 + length t));
+      place = place ∙ w.place;
+    }
+  where
+    go : length a.out.now < 2 ^ 63 → (18446744073709551615 < a.at + 2 + length t) ⊎ (a.at + 2 + length t ≤ 18446744073709551615)
+        → set (sets a.out.now a.at (tag ∷ 0 ∷ t)) (body - 1) ((c.at - body) % 256) ≡ sets a.out.now a.at (tag ∷ length t ∷ t)
+    go k (inl g) =
+        let s : sets a.out.now a.at (tag ∷ 0 ∷ t) ≡ a.out.now = sym (put_past a.out.now a.at _ (tag ∷ 0 ∷ t) (omega arith) refl).bytes in
+        let r : a.out.now ≡ sets a.out.now a.at (tag ∷ length t ∷ t) = (put_past a.out.now a.at _ (tag ∷ length t ∷ t) (omega arith) refl).bytes in
+        ap (λ (l : List ℕ). set l (body - 1) ((c.at - body) % 256)) s ∙ set_out a.out.now (body - 1) ((c.at - body) % 256) (omega (arith, p.place)) ∙ r
+    go k (inr g) =
+        let i : body - 1 ≡ a.at + 1 = omega (arith, p.place) in
+        let n : (c.at - body) % 256 ≡ length t = omega (arith, p.place, q.place) in
+        ap (λ (j : ℕ). set (sets a.out.now a.at (tag ∷ 0 ∷ t)) j ((c.at - body) % 256)) i
+        ∙ ap (λ (m : ℕ). set (sets a.out.now a.at (tag ∷ 0 ∷ t)) (a.at + 1) m) n ∙ set_late a.out.now a.at tag (length t) t
 
-pub parameter_as : (c : Component) {l₀ l₁ l₂ : List ℕ} {at end r n : ℕ} → n ≡ end - (at + 2) → Put l₀ (at + 3) (component_text c) l₁ end → Put l₁ at (50 ∷ n ∷ 145 ∷ []) l₂ r
-    → Put l₀ at (parameter_text c) l₂ end
-unfolding parameter_text
-parameter_as c {at = at} {end = end} {n = n} f q p =
-    let e : n ≡ length (component_text c) + 1 = omega (arith, q.place) in
-    put_as (ap (λ (n : ℕ). 50 ∷ n ∷ 145 ∷ component_text c) e) (put_before refl p q)
+pub parameter_is : (c : Component) → element_text 50 (145 ∷ component_text c) ≡ parameter_text c
+unfolding element_text parameter_text
+parameter_is c = ap (λ (n : ℕ). 50 ∷ n ∷ 145 ∷ component_text c) (sym (add-one (length (component_text c))))
 
--- the length of a text that was put, over no bytes
-pub measured : {old new t : List ℕ} {n : ℕ} → Put old 0 t new n → n ≡ length t
-measured {t = t} p = p.place ∙ zero-add (length t)
+-- the length of a text that was put on a page from its start
+pub measured : {a b : Page} (t : List ℕ) → length t < 2 ^ 63 → a.at ≡ 0 → Wrote t a b → b.at ≡ length t
+measured t h e p = omega (arith, p.place)
 
--- ---- what is answered and left, of a text t whose length and room were looked at
-
-module _ (bad : ℕ) (t out : List ℕ) (n : ℕ) (f : n ≡ length t) where
-  abbrev Looked : Result ℕ Unwritten → Type 0
-  Looked w = w ≡ if_eq bad 0 (if_lt (length out) n (Err NoRoom) (Ok n)) (Err (BadField bad))
-
-  pub write_not : (u : Unwritten) → Looked (Err u) → (Err u ≡ written_of bad t out) × (out ≡ leaves_of bad t out)
-  unfolding written_of leaves_of
-  write_not u e = (
-    e ∙ rw f,
-    both_eq bad 0 (λ (l : List ℕ). out ≡ l) _ _
-        (λ h. both_lt (length out) (length t) (λ (l : List ℕ). out ≡ l) _ _ (λ _. refl)
-        (λ g. let d : Ok n ≡ if_eq bad 0 (if_lt (length out) n (Err NoRoom) (Ok n)) (Err (BadField bad)) = yes_eq _ _ _ _ _ h (no_lt _ _ _ _ _ (omega arith) refl) in
-        cc))
-        (λ _. refl),
-  )
-
-  pub write_room : (k : ℕ) → Looked (Ok k) → (bad ≡ 0) × (n ≤ length out) × (k ≡ n)
-  write_room k =
-      both_eq bad 0 (λ (w : Result ℕ Unwritten). Ok k ≡ w → (bad ≡ 0) × (n ≤ length out) × (k ≡ n)) _ _
-      (λ h. both_lt (length out) n (λ (w : Result ℕ Unwritten). Ok k ≡ w → (bad ≡ 0) × (n ≤ length out) × (k ≡ n)) _ _ (λ _ e. cc)
-      (λ g e. (h, g, cc)))
-      (λ _ e. cc)
-
-  pub write_fits : (k : ℕ) (new : List ℕ) (r : ℕ) → Looked (Ok k) → Put out 0 t new r → (Ok k ≡ written_of bad t out) × (new ≡ leaves_of bad t out)
-  unfolding written_of leaves_of
-  write_fits k new r e p =
-      let w = write_room k e in (
-        e ∙ rw f,
-        yes_eq _ _ _ _ _ w.0
-            (no_lt _ _ _ _ _ (omega arith) (p.bytes ∙ sets-eq t out 0 (omega arith) ∙ ap (λ (k : ℕ). t ++ drop k out) (zero-add (length t)))),
-      )
+-- what was put on a page from its start, all of it, is what the page's buffer x begins with
+pub begun : {a b : Page} (t x : List ℕ) → length t ≤ length a.out.now → length a.out.now < 2 ^ 63 → a.at ≡ 0 → Wrote t a b → x ≡ b.out.now → take b.at x ≡ t
+begun {a} {b} t x h l z p e =
+    let k : a.at + length t < 2 ^ 63 = omega arith in
+    let q : Put a.out.now 0 t b.out.now b.at = rw z at (wrote_put l k p) in
+    rw e (put_first (omega (arith, p.place)) q)

@@ -313,7 +313,7 @@ last_most c =
     joined_most (flag_text (p / 8 % 2) 130 255) (duration_text (p / 64 % 2) c.duration) 3 5 (flag_most (p / 8 % 2) 130 255)
     (duration_most (p / 64 % 2) c.duration)
 
-parts_most : (c : Component) → length (parts_text c) ≤ 150
+pub parts_most : (c : Component) → length (parts_text c) ≤ 150
 unfolding parts_text
 parts_most c =
     joined_most (first_text c.parts ++ parties_text c) (last_text c) 142 8
@@ -331,7 +331,7 @@ error_most : (c : Component) → length (error_text c) ≤ 168
 unfolding error_text element_text id_text code_text
 error_most c = omega arith
 
-rejected_most : (x : ℕ) → length (rejected_text x) ≤ 3
+pub rejected_most : (x : ℕ) → length (rejected_text x) ≤ 3
 unfolding rejected_text id_text
 rejected_most x = both_eq x 256 (λ (t : List ℕ). length t ≤ 3) _ _ (λ _. omega arith) (λ _. omega arith)
 
@@ -342,7 +342,7 @@ reject_most c =
     let z = length-append (rejected_text c.id) (128 ∷ 1 ∷ 0 ∷ []) in
     omega arith
 
-component_most : (c : Component) → length (component_text c) ≤ 168
+pub component_most : (c : Component) → length (component_text c) ≤ 168
 unfolding component_text
 component_most c =
     both_eq _ _ (λ (t : List ℕ). length t ≤ 168) _ _ (λ _. invoke_most c) λ _.

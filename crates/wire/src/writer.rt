@@ -1,28 +1,38 @@
-// A component's bytes, put by the functions of `text`. An element's contents are put first, two bytes on, and its tag and length then in front
-// of them. A run over no bytes measures.
-ghost use Rattle.std.specs.Prelude.{◌≡◌, ◌∷◌, [], ◌==◌, ◌+◌, ◌-◌, ◌/◌, ◌%◌, ◌≤◌, ◌<◌, ◌^◌, length};
+// A component's bytes, put on a page of `text`. An element's tag is put first, and a byte that is set to its length when its contents stand.
+// A text is put on a page of the longest one's size, and given to a host that has room for it.
+ghost use Rattle.std.specs.Prelude.{◌≡◌, ◌∷◌, [], ◌+◌, ◌-◌, ◌/◌, ◌%◌, ◌<◌, ◌^◌, set};
 ghost use Rattle.text.specs.Choose.{if_so, if_lt, if_eq};
 ghost use Rattle.text.specs.Text.{Put};
+ghost use Rattle.text.specs.Page.{Wrote};
 ghost use Rattle.wire.specs.declared.Unwritten.TheVariants.{BadField, NoRoom};
 ghost use Rattle.wire.specs.Texts.{element_text, pair_byte, octets_of, padded_of, number_text, first_text, parties_text, last_text, parts_text, seq_text, id_text, rejected_text, code_text, invoke_text, held_text, result_text, error_text, reject_text, component_text, parameter_text, written_of, leaves_of};
 ghost use Rattle.wire.specs.Writable.{bad_of};
 
 use crate::writable::bad_field;
 use crate::{Component, Number, Unwritten};
-use text::{put, put_word};
+use text::Page;
 
 // ---- elements
 
-// The tag and the length of the element whose contents stand from two bytes after `at` up to `end`.
-fn close(out: &mut [u8], at: usize, tag: u8, end: usize) -> usize
-    requires begins { at + 2 ≤ end }
-    requires ends { end < at + 258 }
-    requires room { at < 2 ^ 62 }
-    ensures put { Put out.old at (tag ∷ (end - (at + 2)) ∷ []) out.new (at + 2) }
-    ensures after { result ≡ end }
+// An element's tag, and room for its length. The place where its contents begin.
+fn open(page: &mut Page<'_>, tag: u8) -> usize
+    ensures put { Wrote (tag ∷ 0 ∷ []) page.old page.new }
+    ensures place { result ≡ page.new.at }
 {
-    put_word(out, at, &[tag, (end - (at + 2)) as u8]);
-    end
+    page.word(&[tag, 0]);
+    page.at
+}
+
+// The length of the contents that begin at `body`, in the byte before them.
+fn close(page: &mut Page<'_>, body: usize)
+    ensures same { page.new.out.ghost_name ≡ page.old.out.ghost_name }
+    ensures bytes { page.new.out.now ≡ set page.old.out.now (body - 1) ((page.old.at - body) % 256) }
+    ensures place { page.new.at ≡ page.old.at }
+{
+    let place = body.saturating_sub(1);
+    if place < page.out.len() {
+        page.out[place] = (page.at.saturating_sub(body) % 256) as u8;
+    }
 }
 
 // ---- numbers
@@ -34,21 +44,29 @@ fn pair_byte(p: u64) -> u8
     (p / 10 + p % 10 * 16) as u8
 }
 
-// Where there is no room there is nothing to divide.
-fn put_octets(out: &mut [u8], at: usize, v: u64, m: usize) -> usize
-    requires { at + m < 2 ^ 63 }
-    ensures put { Put out.old at (octets_of m v) out.new result }
-    ensures upper_bound { result ≤ at + m }
+// The last 2 * m digits of v, in a buffer from a place on; the last two are put first.
+fn set_octets(out: &mut [u8], at: usize, v: u64, m: usize)
+    requires { (at < 2 ^ 63) × (m < 2 ^ 63) }
+    ensures { Put out.old at (octets_of m v) out.new (at + m) }
 {
-    if out.len() <= at {
-        return at + m;
-    }
     let mut rest = v;
     for left in (0..m).rev() {
-        put(out, at + left, pair_byte(rest % 100));
+        if at + left < out.len() {
+            out[at + left] = pair_byte(rest % 100);
+        }
         rest /= 100;
     }
-    at + m
+}
+
+// Where there is no room there is nothing to divide.
+fn put_octets(page: &mut Page<'_>, v: u64, m: u8)
+    ensures { Wrote (octets_of m v) page.old page.new }
+{
+    let m = m as usize;
+    if page.at < page.out.len() {
+        set_octets(page.out, page.at, v, m);
+    }
+    page.at = page.at.saturating_add(m);
 }
 
 fn padded(count: u8, v: u64) -> u64
@@ -58,220 +76,188 @@ fn padded(count: u8, v: u64) -> u64
     if count % 2 == 1 { digits * 10 } else { digits }
 }
 
-fn put_number(out: &mut [u8], at: usize, n: Number) -> usize
-    requires { at < 2 ^ 61 }
-    ensures put { Put out.old at (number_text n) out.new result }
-    ensures upper_bound { result ≤ at + 66 }
+fn put_number(page: &mut Page<'_>, n: Number)
+    ensures { Wrote (number_text n) page.old page.new }
 {
-    let to = put_word(out, at, &[n.count % 2 * 128 + n.count / 128 + 3, 19]);
-    let v = padded(n.count, n.value);
-    put_octets(out, to, v, usize::from((n.count % 128 + 1) / 2))
+    page.word(&[n.count % 2 * 128 + n.count / 128 + 3, 19]);
+    put_octets(page, padded(n.count, n.value), (n.count % 128 + 1) / 2);
 }
 
 // ---- parts
 
-fn put_flag(out: &mut [u8], at: usize, present: bool, tag: u8, x: u8) -> usize
-    requires { at < 2 ^ 61 }
-    ensures put { Put out.old at (if_so present (tag ∷ 1 ∷ x ∷ []) []) out.new result }
-    ensures upper_bound { result ≤ at + 3 }
+#[tactic(auto, unfolding(text::specs::Choose::if_so), using(text::proofs::Writes::wrote_none))]
+fn put_flag(page: &mut Page<'_>, present: bool, tag: u8, x: u8)
+    ensures { Wrote (if_so present (tag ∷ 1 ∷ x ∷ []) []) page.old page.new }
 {
     if present {
-        put_word(out, at, &[tag, 1, x])
-    } else {
-        at
+        page.word(&[tag, 1, x]);
     }
 }
 
-fn put_party(out: &mut [u8], at: usize, present: bool, n: Number) -> usize
-    requires { at < 2 ^ 60 }
-    ensures put { Put out.old at (if_so present (element_text 129 (number_text n)) []) out.new result }
-    ensures upper_bound { result ≤ at + 68 }
+fn put_party(page: &mut Page<'_>, present: bool, n: Number)
+    ensures { Wrote (if_so present (element_text 129 (number_text n)) []) page.old page.new }
 {
     if present {
-        let end = put_number(out, at + 2, n);
-        close(out, at, 129, end)
-    } else {
-        at
+        let body = open(page, 129);
+        put_number(page, n);
+        close(page, body);
     }
 }
 
-fn put_duration(out: &mut [u8], at: usize, present: bool, t: u32) -> usize
-    requires { at < 2 ^ 60 }
-    ensures put { Put out.old at (if_so present (130 ∷ 3 ∷ t / 3600 % 256 ∷ t / 60 % 60 ∷ t % 60 ∷ []) []) out.new result }
-    ensures upper_bound { result ≤ at + 5 }
+#[tactic(auto, unfolding(text::specs::Choose::if_so), using(text::proofs::Writes::wrote_none))]
+fn put_duration(page: &mut Page<'_>, present: bool, t: u32)
+    ensures { Wrote (if_so present (130 ∷ 3 ∷ t / 3600 % 256 ∷ t / 60 % 60 ∷ t % 60 ∷ []) []) page.old page.new }
 {
     if present {
         let hours = (t / 3600 % 256) as u8;
-        put_word(
-            out,
-            at,
-            &[130, 3, hours, (t / 60 % 60) as u8, (t % 60) as u8],
-        )
-    } else {
-        at
+        page.word(&[130, 3, hours, (t / 60 % 60) as u8, (t % 60) as u8]);
     }
 }
 
-fn put_first(out: &mut [u8], at: usize, p: u8) -> usize
-    requires { at < 2 ^ 60 }
-    ensures put { Put out.old at (first_text p) out.new result }
-    ensures upper_bound { result ≤ at + 6 }
+fn put_first(page: &mut Page<'_>, p: u8)
+    ensures { Wrote (first_text p) page.old page.new }
 {
-    let to = put_flag(out, at, p % 2 == 1, 128, 255);
-    put_flag(out, to, p / 2 % 2 == 1, 128, p / 4 % 2 * 255)
+    put_flag(page, p % 2 == 1, 128, 255);
+    put_flag(page, p / 2 % 2 == 1, 128, p / 4 % 2 * 255);
 }
 
-fn put_parties(out: &mut [u8], at: usize, c: Component) -> usize
-    requires { at < 2 ^ 59 }
-    ensures put { Put out.old at (parties_text c) out.new result }
-    ensures upper_bound { result ≤ at + 136 }
+fn put_parties(page: &mut Page<'_>, c: Component)
+    ensures { Wrote (parties_text c) page.old page.new }
 {
-    let to = put_party(out, at, c.parts / 16 % 2 == 1, c.calling);
-    put_party(out, to, c.parts / 32 % 2 == 1, c.called)
+    put_party(page, c.parts / 16 % 2 == 1, c.calling);
+    put_party(page, c.parts / 32 % 2 == 1, c.called);
 }
 
-fn put_last(out: &mut [u8], at: usize, c: Component) -> usize
-    requires { at < 2 ^ 59 }
-    ensures put { Put out.old at (last_text c) out.new result }
-    ensures upper_bound { result ≤ at + 8 }
+fn put_last(page: &mut Page<'_>, c: Component)
+    ensures { Wrote (last_text c) page.old page.new }
 {
-    let to = put_flag(out, at, c.parts / 8 % 2 == 1, 130, 255);
-    put_duration(out, to, c.parts / 64 % 2 == 1, c.duration)
+    put_flag(page, c.parts / 8 % 2 == 1, 130, 255);
+    put_duration(page, c.parts / 64 % 2 == 1, c.duration);
 }
 
-fn put_parts(out: &mut [u8], at: usize, c: Component) -> usize
-    requires { at < 2 ^ 58 }
-    ensures put { Put out.old at (parts_text c) out.new result }
-    ensures upper_bound { result ≤ at + 150 }
+fn put_parts(page: &mut Page<'_>, c: Component)
+    ensures { Wrote (parts_text c) page.old page.new }
 {
-    let to = put_first(out, at, c.parts);
-    let next = put_parties(out, to, c);
-    put_last(out, next, c)
+    put_first(page, c.parts);
+    put_parties(page, c);
+    put_last(page, c);
 }
 
-fn put_seq(out: &mut [u8], at: usize, c: Component) -> usize
-    requires { at < 2 ^ 57 }
-    ensures put { Put out.old at (seq_text c) out.new result }
-    ensures upper_bound { result ≤ at + 152 }
+fn put_seq(page: &mut Page<'_>, c: Component)
+    ensures { Wrote (seq_text c) page.old page.new }
 {
-    let end = put_parts(out, at + 2, c);
-    close(out, at, 48, end)
+    let body = open(page, 48);
+    put_parts(page, c);
+    close(page, body);
 }
 
 // ---- components
 
-fn put_id(out: &mut [u8], at: usize, id: u16) -> usize
-    requires { at < 2 ^ 61 }
-    ensures put { Put out.old at (id_text id) out.new result }
-    ensures upper_bound { result ≤ at + 3 }
+#[tactic(auto, unfolding(crate::specs::Texts::id_text))]
+fn put_id(page: &mut Page<'_>, id: u16)
+    ensures { Wrote (id_text id) page.old page.new }
 {
-    put_word(out, at, &[2, 1, (id % 256) as u8])
+    page.word(&[2, 1, (id % 256) as u8]);
 }
 
-fn put_rejected(out: &mut [u8], at: usize, id: u16) -> usize
-    requires { at < 2 ^ 60 }
-    ensures put { Put out.old at (rejected_text id) out.new result }
-    ensures upper_bound { result ≤ at + 3 }
+fn put_rejected(page: &mut Page<'_>, id: u16)
+    ensures { Wrote (rejected_text id) page.old page.new }
 {
     if id == 256 {
-        put_word(out, at, &[5, 0])
+        page.word(&[5, 0]);
     } else {
-        put_id(out, at, id)
+        put_id(page, id);
     }
 }
 
-fn put_code(out: &mut [u8], at: usize, n: u8) -> usize
-    requires { at < 2 ^ 61 }
-    ensures put { Put out.old at (code_text n) out.new result }
-    ensures upper_bound { result ≤ at + 9 }
+#[tactic(auto, unfolding(crate::specs::Texts::code_text))]
+fn put_code(page: &mut Page<'_>, n: u8)
+    ensures { Wrote (code_text n) page.old page.new }
 {
-    put_word(out, at, &[6, 7, 0, 17, 133, 96, 3, 1, n])
+    page.word(&[6, 7, 0, 17, 133, 96, 3, 1, n]);
 }
 
-fn put_invoke(out: &mut [u8], at: usize, c: Component) -> usize
-    requires { at < 2 ^ 56 }
-    ensures put { Put out.old at (invoke_text c) out.new result }
-    ensures upper_bound { result ≤ at + 166 }
+fn put_invoke(page: &mut Page<'_>, c: Component)
+    ensures { Wrote (invoke_text c) page.old page.new }
 {
-    let a = put_id(out, at + 2, c.id);
-    let b = put_code(out, a, c.item);
-    let end = put_seq(out, b, c);
-    close(out, at, 161, end)
+    let body = open(page, 161);
+    put_id(page, c.id);
+    put_code(page, c.item);
+    put_seq(page, c);
+    close(page, body);
 }
 
-fn put_held(out: &mut [u8], at: usize, c: Component) -> usize
-    requires { at < 2 ^ 56 }
-    ensures put { Put out.old at (held_text c) out.new result }
-    ensures upper_bound { result ≤ at + 163 }
+fn put_held(page: &mut Page<'_>, c: Component)
+    ensures { Wrote (held_text c) page.old page.new }
 {
-    let a = put_code(out, at + 2, c.item);
-    let end = put_seq(out, a, c);
-    close(out, at, 48, end)
+    let body = open(page, 48);
+    put_code(page, c.item);
+    put_seq(page, c);
+    close(page, body);
 }
 
-fn put_result(out: &mut [u8], at: usize, c: Component) -> usize
-    requires { at < 2 ^ 55 }
-    ensures put { Put out.old at (result_text c) out.new result }
-    ensures upper_bound { result ≤ at + 168 }
+fn put_result(page: &mut Page<'_>, c: Component)
+    ensures { Wrote (result_text c) page.old page.new }
 {
-    let a = put_id(out, at + 2, c.id);
-    let end = put_held(out, a, c);
-    close(out, at, 162, end)
+    let body = open(page, 162);
+    put_id(page, c.id);
+    put_held(page, c);
+    close(page, body);
 }
 
-fn put_error(out: &mut [u8], at: usize, c: Component) -> usize
-    requires { at < 2 ^ 56 }
-    ensures put { Put out.old at (error_text c) out.new result }
-    ensures upper_bound { result ≤ at + 14 }
+fn put_error(page: &mut Page<'_>, c: Component)
+    ensures { Wrote (error_text c) page.old page.new }
 {
-    let a = put_id(out, at + 2, c.id);
-    let end = put_code(out, a, c.item);
-    close(out, at, 163, end)
+    let body = open(page, 163);
+    put_id(page, c.id);
+    put_code(page, c.item);
+    close(page, body);
 }
 
-fn put_reject(out: &mut [u8], at: usize, c: Component) -> usize
-    requires { at < 2 ^ 56 }
-    ensures put { Put out.old at (reject_text c) out.new result }
-    ensures upper_bound { result ≤ at + 8 }
+fn put_reject(page: &mut Page<'_>, c: Component)
+    ensures { Wrote (reject_text c) page.old page.new }
 {
-    let a = put_rejected(out, at + 2, c.id);
-    let end = put_word(out, a, &[128, 1, 0]);
-    close(out, at, 164, end)
+    let body = open(page, 164);
+    put_rejected(page, c.id);
+    page.word(&[128, 1, 0]);
+    close(page, body);
 }
 
-fn put_component(out: &mut [u8], at: usize, c: Component) -> usize
-    requires { at < 2 ^ 55 }
-    ensures put { Put out.old at (component_text c) out.new result }
-    ensures upper_bound { result ≤ at + 168 }
+fn put_component(page: &mut Page<'_>, c: Component)
+    ensures { Wrote (component_text c) page.old page.new }
 {
     match c.kind {
-        1 => put_invoke(out, at, c),
-        2 => put_result(out, at, c),
-        3 => put_error(out, at, c),
-        _ => put_reject(out, at, c),
+        1 => put_invoke(page, c),
+        2 => put_result(page, c),
+        3 => put_error(page, c),
+        _ => put_reject(page, c),
     }
 }
 
-fn put_parameter(out: &mut [u8], at: usize, c: Component) -> usize
-    requires { at < 2 ^ 54 }
-    ensures put { Put out.old at (parameter_text c) out.new result }
-    ensures upper_bound { result ≤ at + 171 }
+// Its name and count stand as an element's tag and length do.
+fn put_parameter(page: &mut Page<'_>, c: Component)
+    ensures { Wrote (parameter_text c) page.old page.new }
 {
-    let end = put_component(out, at + 3, c);
-    put_word(out, at, &[50, (end - (at + 2)) as u8, 145]);
-    end
+    let body = open(page, 50);
+    page.put(145);
+    put_component(page, c);
+    close(page, body);
 }
 
 // ---- what a host is given
 
-// Whether a text of this length, of this component, can be written into this room: its first bad field is told, then too little room.
-fn fits(c: Component, size: usize, room: usize) -> Result<usize, Unwritten>
-    ensures { result ≡ if_eq (bad_of c) 0 (if_lt room size (Err NoRoom) (Ok size)) (Err (BadField (bad_of c))) }
+// What is given of a component's text: the first bad field of what cannot be written, then too little room; else its bytes.
+fn give(c: Component, text: &[u8], out: &mut [u8]) -> Result<usize, Unwritten>
+    ensures { (result ≡ written_of (bad_of c) text.now out.old)
+        × (out.new ≡ leaves_of (bad_of c) text.now out.old) }
 {
     match bad_field(c) {
         Some(k) => Err(Unwritten::BadField(k)),
-        None if room < size => Err(Unwritten::NoRoom),
-        None => Ok(size),
+        None if out.len() < text.len() => Err(Unwritten::NoRoom),
+        None => {
+            out[..text.len()].copy_from_slice(text);
+            Ok(text.len())
+        }
     }
 }
 
@@ -280,9 +266,11 @@ pub fn write_component(c: Component, out: &mut [u8]) -> Result<usize, Unwritten>
     ensures { (result ≡ written_of (bad_of c) (component_text c) out.old)
         × (out.new ≡ leaves_of (bad_of c) (component_text c) out.old) }
 {
-    let n = fits(c, put_component(&mut [], 0, c), out.len())?;
-    put_component(out, 0, c);
-    Ok(n)
+    let mut bytes = [0; 168];
+    let mut page = Page::new(&mut bytes);
+    put_component(&mut page, c);
+    let n = page.at;
+    give(c, &bytes[..n], out)
 }
 
 // The same for a whole parameter of this one component.
@@ -291,7 +279,9 @@ pub fn write_parameter(c: Component, out: &mut [u8]) -> Result<usize, Unwritten>
     ensures { (result ≡ written_of (bad_of c) (parameter_text c) out.old)
         × (out.new ≡ leaves_of (bad_of c) (parameter_text c) out.old) }
 {
-    let n = fits(c, put_parameter(&mut [], 0, c), out.len())?;
-    put_parameter(out, 0, c);
-    Ok(n)
+    let mut bytes = [0; 171];
+    let mut page = Page::new(&mut bytes);
+    put_parameter(&mut page, c);
+    let n = page.at;
+    give(c, &bytes[..n], out)
 }

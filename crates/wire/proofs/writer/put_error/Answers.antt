@@ -1,8 +1,9 @@
-use Rattle.text.proofs.Laws.{put_after}
-use Rattle.wire.proofs.Pieces.{element_as}
-use Rattle.wire.specs.Texts.{error_text}
+use Rattle.std.proofs.Common.{arith}
+use Rattle.text.proofs.Writes.{wrote_after}
+use Rattle.wire.proofs.Pieces.{element_wrote}
+use Rattle.wire.specs.Texts.{error_text, id_text, code_text}
 use Rattle.wire.proofs.writer.put_error.Goals as goal
 
-pub returns-clause-put : goal.returns-clause-put
-unfolding error_text
-returns-clause-put c = element_as 163 c.close.ensures.after (put_after c.put_code-end.ensures.put c.put_id-a.ensures.put) c.close.ensures.put
+pub returns : goal.returns
+unfolding error_text id_text code_text
+returns c = element_wrote 163 (omega arith) c.open-body.ensures.put c.open-body.ensures.place (wrote_after c.put_code.ensures c.put_id.ensures) c.close.ensures.same c.close.ensures.bytes c.close.ensures.place

@@ -1,8 +1,10 @@
-use Rattle.text.proofs.Laws.{put_after}
-use Rattle.wire.proofs.Pieces.{element_as}
-use Rattle.wire.specs.Texts.{held_text}
+use Rattle.std.proofs.Common.{arith}
+use Rattle.text.proofs.Writes.{wrote_after}
+use Rattle.wire.proofs.Pieces.{element_wrote}
+use Rattle.wire.proofs.Places.{parts_most}
+use Rattle.wire.specs.Texts.{held_text, code_text, seq_text, element_text}
 use Rattle.wire.proofs.writer.put_held.Goals as goal
 
-pub returns-clause-put : goal.returns-clause-put
-unfolding held_text
-returns-clause-put c = element_as 48 c.close.ensures.after (put_after c.put_seq-end.ensures.put c.put_code-a.ensures.put) c.close.ensures.put
+pub returns : goal.returns
+unfolding held_text code_text seq_text element_text
+returns c = element_wrote 48 (let p = parts_most c.args.c in omega arith) c.open-body.ensures.put c.open-body.ensures.place (wrote_after c.put_seq.ensures c.put_code.ensures) c.close.ensures.same c.close.ensures.bytes c.close.ensures.place

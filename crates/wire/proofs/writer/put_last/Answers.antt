@@ -1,8 +1,8 @@
-use Rattle.text.proofs.Laws.{put_after}
 use Rattle.text.specs.Choose.{if_eq}
+use Rattle.text.proofs.Writes.{wrote_after}
 use Rattle.wire.specs.Texts.{text_if, flag_text, duration_text, last_text}
 use Rattle.wire.proofs.writer.put_last.Goals as goal
 
-pub returns-clause-put : goal.returns-clause-put
+pub returns : goal.returns
 unfolding last_text flag_text duration_text text_if if_eq
-returns-clause-put c = put_after c.put_duration.ensures.put c.put_flag-to.ensures.put
+returns c = wrote_after c.put_duration.ensures c.put_flag.ensures

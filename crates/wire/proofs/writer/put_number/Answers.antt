@@ -1,7 +1,7 @@
-use Rattle.text.proofs.Laws.{put_after}
+use Rattle.text.proofs.Writes.{wrote_after}
 use Rattle.wire.specs.Texts.{number_text}
 use Rattle.wire.proofs.writer.put_number.Goals as goal
 
-pub returns-clause-put : goal.returns-clause-put
+pub returns : goal.returns
 unfolding number_text
-returns-clause-put c = put_after (rw (c.from.ensures, c.padded-v.ensures) at c.put_octets.ensures.put) c.put_word-to.ensures
+returns c = wrote_after (rw c.padded.ensures at c.put_octets.ensures) c.word.ensures

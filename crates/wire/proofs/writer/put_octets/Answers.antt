@@ -1,13 +1,16 @@
-use Rattle.std.proofs.Common.{ℕ, ◌+◌, sym, ap, arith}
+use Rattle.std.proofs.Common.{arith, refl, ap, length, ◌≡◌}
 use Rattle.text.proofs.Laws.{put_past}
-use Rattle.wire.proofs.Pieces.{octets_length, octets_on, octets_done}
+use Rattle.text.specs.declared.page.Page.{Page}
+use Rattle.text.proofs.Writes.{put_wrote}
+use Rattle.wire.proofs.Pieces.{octets_length}
+use Rattle.wire.specs.Texts.{octets_of}
+use Rattle.wire.proofs.writer.put_octets.Goals.{then-page, else-page}
 use Rattle.wire.proofs.writer.put_octets.Goals as goal
 
-pub loop-left-preserved : goal.loop-left-preserved
-loop-left-preserved c = octets_on c.loop-left.invariant (omega arith) c.pair_byte.ensures c.put.ensures
-
-pub returns-clause-put : goal.returns-clause-put
-returns-clause-put c = octets_done c.loop-left.invariant (omega arith)
-
-pub returns-then-out-at-clause-put : goal.returns-then-out-at-clause-put
-returns-then-out-at-clause-put c = put_past _ _ _ _ (omega arith) (ap (λ (k : ℕ). c.args.at + k) (sym (octets_length _ _)))
+pub returns : goal.returns
+returns c =
+    let e : length (octets_of c.args.m c.args.v) ≡ c.args.m = octets_length c.args.m c.args.v in
+    elim c.if-page.branch [
+      | then-page w ↦ rw w.page-is (put_wrote refl (omega (arith, ap (λ (p : Page). p.at) w.page-is)) (λ h. record { bytes = w.set_octets.ensures.bytes; place = refl }))
+      | else-page w ↦ rw w.page-is (put_wrote refl (omega (arith, ap (λ (p : Page). p.at) w.page-is)) (λ h. put_past _ _ _ _ (omega arith) refl))
+    ]

@@ -1,8 +1,8 @@
-use Rattle.text.proofs.Laws.{put_after}
 use Rattle.text.specs.Choose.{if_eq}
+use Rattle.text.proofs.Writes.{wrote_after}
 use Rattle.wire.specs.Texts.{text_if, party_text, parties_text}
 use Rattle.wire.proofs.writer.put_parties.Goals as goal
 
-pub returns-clause-put : goal.returns-clause-put
+pub returns : goal.returns
 unfolding parties_text party_text text_if if_eq
-returns-clause-put c = put_after c.put_party.ensures.put c.put_party-to.ensures.put
+returns c = wrote_after c.put_party-2.ensures c.put_party.ensures

@@ -1,7 +1,7 @@
-use Rattle.text.proofs.Laws.{put_after}
+use Rattle.text.proofs.Writes.{wrote_after}
 use Rattle.wire.specs.Texts.{parts_text}
 use Rattle.wire.proofs.writer.put_parts.Goals as goal
 
-pub returns-clause-put : goal.returns-clause-put
+pub returns : goal.returns
 unfolding parts_text
-returns-clause-put c = put_after c.put_last.ensures.put (put_after c.put_parties-next.ensures.put c.put_first-to.ensures.put)
+returns c = wrote_after c.put_last.ensures (wrote_after c.put_parties.ensures c.put_first.ensures)

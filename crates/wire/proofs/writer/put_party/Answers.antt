@@ -1,12 +1,13 @@
-use Rattle.text.proofs.Laws.{put_none}
+use Rattle.std.proofs.Common.{arith}
+use Rattle.text.proofs.Writes.{wrote_none}
 use Rattle.text.specs.Choose.{if_so}
-use Rattle.wire.proofs.Pieces.{element_as}
+use Rattle.wire.proofs.Pieces.{element_wrote, number_length}
 use Rattle.wire.proofs.writer.put_party.Goals as goal
 
-pub returns-then-present-clause-put : goal.returns-then-present-clause-put
+pub returns-then-present : goal.returns-then-present
 unfolding if_so
-returns-then-present-clause-put c = rw c.if-present.true (element_as 129 c.close.ensures.after c.put_number-end.ensures.put c.close.ensures.put)
+returns-then-present c = rw c.if-present.true (element_wrote 129 (let e = number_length c.args.n in omega arith) c.open-body.ensures.put c.open-body.ensures.place (c.put_number.ensures) c.close.ensures.same c.close.ensures.bytes c.close.ensures.place)
 
-pub returns-else-present-clause-put : goal.returns-else-present-clause-put
+pub returns-else-present : goal.returns-else-present
 unfolding if_so
-returns-else-present-clause-put c = rw c.if-present.false (put_none _ _)
+returns-else-present c = rw c.if-present.false (wrote_none _)

@@ -1,8 +1,10 @@
-use Rattle.text.proofs.Laws.{put_after}
-use Rattle.wire.proofs.Pieces.{element_as}
-use Rattle.wire.specs.Texts.{reject_text}
+use Rattle.std.proofs.Common.{arith, length-append, ◌∷◌, []}
+use Rattle.text.proofs.Writes.{wrote_after}
+use Rattle.wire.proofs.Pieces.{element_wrote}
+use Rattle.wire.proofs.Places.{rejected_most}
+use Rattle.wire.specs.Texts.{rejected_text, reject_text}
 use Rattle.wire.proofs.writer.put_reject.Goals as goal
 
-pub returns-clause-put : goal.returns-clause-put
+pub returns : goal.returns
 unfolding reject_text
-returns-clause-put c = element_as 164 c.close.ensures.after (put_after c.put_word-end.ensures c.put_rejected-a.ensures.put) c.close.ensures.put
+returns c = element_wrote 164 (let p = rejected_most c.args.c.id in let e = length-append (rejected_text c.args.c.id) (128 ∷ 1 ∷ 0 ∷ []) in omega arith) c.open-body.ensures.put c.open-body.ensures.place (wrote_after c.word.ensures c.put_rejected.ensures) c.close.ensures.same c.close.ensures.bytes c.close.ensures.place

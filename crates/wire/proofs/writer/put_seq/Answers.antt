@@ -1,7 +1,9 @@
-use Rattle.wire.proofs.Pieces.{element_as}
+use Rattle.std.proofs.Common.{arith}
+use Rattle.wire.proofs.Pieces.{element_wrote}
+use Rattle.wire.proofs.Places.{parts_most}
 use Rattle.wire.specs.Texts.{seq_text}
 use Rattle.wire.proofs.writer.put_seq.Goals as goal
 
-pub returns-clause-put : goal.returns-clause-put
+pub returns : goal.returns
 unfolding seq_text
-returns-clause-put c = element_as 48 c.close.ensures.after c.put_parts-end.ensures.put c.close.ensures.put
+returns c = element_wrote 48 (let p = parts_most c.args.c in omega arith) c.open-body.ensures.put c.open-body.ensures.place (c.put_parts.ensures) c.close.ensures.same c.close.ensures.bytes c.close.ensures.place

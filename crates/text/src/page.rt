@@ -1,0 +1,77 @@
+// A page: a lent buffer, and the place in it that is written next. A byte past the buffer's end is counted and not stored; the count stops
+// at the largest number, which no buffer reaches.
+ghost use Rattle.std.specs.Prelude.{◌≡◌, ◌∷◌, [], ◌≤◌, length};
+ghost use Rattle.text.specs.Text.{last_digits, decimal, numbered};
+ghost use Rattle.text.specs.Page.{Wrote};
+
+use crate::{digit, digits, put_digits};
+
+#[derive(Drop)]
+pub struct Page<'a> {
+    pub out: &'a mut [u8],
+    pub at: usize,
+}
+
+impl<'a> Page<'a> {
+    pub fn new(out: &'a mut [u8]) -> Page<'a>
+        ensures same { result.out.ghost_name ≡ out.entry.ghost_name }
+        ensures at { result.at ≡ 0 }
+        ensures bytes { result.out.now ≡ out.old }
+    {
+        Page { out, at: 0 }
+    }
+
+    // One byte.
+    pub fn put(&mut self, b: u8)
+        ensures { Wrote (b ∷ []) self.old self.new }
+    {
+        if self.at < self.out.len() {
+            self.out[self.at] = b;
+        }
+        self.at = self.at.saturating_add(1);
+    }
+
+    // The bytes of a word.
+    pub fn word(&mut self, word: &[u8])
+        ensures { Wrote word.now self.old self.new }
+    {
+        let to = self.at.saturating_add(word.len());
+        if to <= self.out.len() {
+            self.out[self.at..to].copy_from_slice(word);
+        } else if self.at < self.out.len() {
+            let room = self.out.len() - self.at;
+            self.out[self.at..].copy_from_slice(&word[..room]);
+        }
+        self.at = to;
+    }
+
+    // A word and a number in decimal.
+    pub fn numbered(&mut self, word: &[u8], n: u32)
+        ensures { Wrote (numbered word.now n) self.old self.new }
+    {
+        self.word(word);
+        self.decimal(n);
+    }
+
+    // n in decimal.
+    pub fn decimal(&mut self, n: u32)
+        ensures { Wrote (decimal n) self.old self.new }
+    {
+        if n < 10 {
+            self.put(digit(n as u64));
+        } else {
+            self.digits(n as u64, digits(n) as u8);
+        }
+    }
+
+    // The last k digits of n, zeros in front where it has fewer; the last one is put first.
+    pub fn digits(&mut self, n: u64, k: u8)
+        ensures { Wrote (last_digits k n) self.old self.new }
+    {
+        let k = k as usize;
+        if self.at < self.out.len() {
+            put_digits(self.out, self.at, n, k);
+        }
+        self.at = self.at.saturating_add(k);
+    }
+}
