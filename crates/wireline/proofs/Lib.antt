@@ -1,4 +1,2 @@
 pub mod Octets
-pub mod Texts
 pub mod Told
-pub mod Values

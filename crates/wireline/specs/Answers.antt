@@ -1,10 +1,10 @@
 -- What is said of a whole input: of the component that it begins with, or of a parameter.
 -- Assumes nothing.
 use Rattle.std.specs.Prelude.{ℕ, List, [], ◌∷◌, ◌++◌, Ok, Err}
-use Rattle.text.specs.Text.{ascii, numbered}
+use Rattle.text.specs.Text.{ascii, value_text, numbered}
 use Rattle.wire.specs.Parameters.{Parameter, refused, holds}
 use Rattle.wire.specs.declared.Component.{Component}
-use Rattle.wireline.specs.Lines.{value_text, line_text}
+use Rattle.wireline.specs.Lines.{line_text}
 use Rattle.wire.specs.Answers.{Answer}
 
 -- a refusal's number and place

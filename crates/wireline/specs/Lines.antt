@@ -8,15 +8,11 @@
 -- Assumes nothing.
 use Rattle.std.specs.Prelude.{ℕ, ◌/◌, ◌%◌, List, ◌++◌}
 use Rattle.text.specs.Choose.{if_eq}
-use Rattle.text.specs.Text.{ascii, last_digits, decimal, decimal_by, numbered}
+use Rattle.text.specs.Text.{ascii, last_digits, decimal, value_text, numbered}
 use Rattle.wire.specs.Texts.{text_if}
 use Rattle.wire.specs.declared.Component.{Component}
 use Rattle.wire.specs.declared.Number.{Number}
 use Rattle.wireline.specs.Hex.{octet_text}
-
--- a value in decimal: 64 bits have at most 20 digits
-unfoldable pub value_text : ℕ → List ℕ
-value_text n = decimal_by 20 n
 
 -- ---- numbers: from 128 on a count is that of an international one
 
