@@ -1,8 +1,8 @@
-use Rattle.text.proofs.Writes.{writes}
+use Rattle.text.proofs.Writes.{wrote_so, wrote_not, writes}
 use Rattle.wireline.proofs.lines.put_if.Goals as goal
 
 pub returns-then-present : goal.returns-then-present
-returns-then-present c = search writes
+returns-then-present c = search (wrote_so, wrote_not, writes)
 
 pub returns-else-present : goal.returns-else-present
-returns-else-present c = search writes
+returns-else-present c = search (wrote_so, wrote_not, writes)
