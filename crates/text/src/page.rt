@@ -1,7 +1,7 @@
 // A page: a lent buffer, and the place in it that is written next. A byte past the buffer's end is counted and not stored; the count stops
 // at the largest number, which no buffer reaches.
 ghost use Rattle.std.specs.Prelude.{◌≡◌, ◌∷◌, [], ◌≤◌, length};
-ghost use Rattle.text.specs.Text.{last_digits, decimal, numbered};
+ghost use Rattle.text.specs.Text.{last_digits, decimal, value_text, numbered};
 ghost use Rattle.text.specs.Page.{Wrote};
 
 use crate::{digit, digits, put_digits};
@@ -61,6 +61,21 @@ impl<'a> Page<'a> {
             self.put(digit(n as u64));
         } else {
             self.digits(n as u64, digits(n) as u8);
+        }
+    }
+
+    // A value in decimal: the last 9 or 18 digits apart, since the first are a number of 32 bits then.
+    pub fn value(&mut self, n: u64)
+        ensures { Wrote (value_text n) self.old self.new }
+    {
+        if n < 1_000_000_000 {
+            self.decimal(n as u32);
+        } else if n < 1_000_000_000_000_000_000 {
+            self.decimal((n / 1_000_000_000) as u32);
+            self.digits(n, 9);
+        } else {
+            self.decimal((n / 1_000_000_000_000_000_000) as u32);
+            self.digits(n, 18);
         }
     }
 

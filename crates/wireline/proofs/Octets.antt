@@ -1,9 +1,11 @@
 -- Hexadecimal text, written octet by octet and read byte by byte: what each turn of the loops keeps.
 -- Assumes nothing.
-use Rattle.std.proofs.Common.{◌≡◌, ℕ, ◌+◌, ◌-◌, ◌*◌, ◌<◌, ◌≤◌, Option, None, Some, List, [], ◌∷◌, ◌++◌, length, get_or, drop, sym, refl, ap, ◌∙◌, append_assoc, append-nil, add-one, length-drop, drop_of_length-le, drop-cons, arith}
+use Rattle.std.proofs.Common.{◌≡◌, ℕ, ◌+◌, ◌-◌, ◌*◌, ◌^◌, ◌<◌, ◌≤◌, Option, None, Some, List, [], ◌∷◌, ◌++◌, length, get_or, drop, sym, refl, ap, ◌∙◌, append_assoc, append-nil, add-one, length-append, length-drop, drop_of_length-le, drop-cons, arith}
+use Rattle.text.specs.Page.{Wrote}
 use Rattle.text.specs.Text.{Put}
+use Rattle.text.specs.declared.page.Page.{Page}
 use Rattle.text.proofs.Cases.{yes_lt, no_lt, no_eq, both_lt, both_eq}
-use Rattle.text.proofs.Laws.{put_none, put_after, put_as}
+use Rattle.text.proofs.Writes.{wrote_none, wrote_after, wrote_as, wrote_put}
 use Rattle.wireline.specs.Hex.{octet_text, end_text, hex_text, digit_of, meaning_of}
 use Rattle.wireline.specs.Hex.{Meant, nothing, octets, before, meant_by, meant_from, hexed_of, Laid}
 use Rattle.wireline.specs.declared.hex.HexByte.{HexByte}
@@ -14,25 +16,25 @@ next s i h = drop-cons s i 0 h ∙ ap (λ (k : ℕ). get_or s i 0 ∷ drop k s) 
 
 -- ---- written
 
-pub record Writing (s old new : List ℕ) (to i : ℕ) : Type 0 where
+pub record Writing (s : List ℕ) (old new : Page) (i : ℕ) : Type 0 where
   pub text : List ℕ
-  pub put : Put old 0 text new to
+  pub put : Wrote text old new
   pub all : text ++ hex_text (drop i s) ≡ hex_text s
 
-pub writing_none : (s old : List ℕ) → Writing s old old 0 0
-writing_none s old = record { text = []; put = put_none old 0; all = refl }
+pub writing_none : (s : List ℕ) (old : Page) → Writing s old old 0
+writing_none s old = record { text = []; put = wrote_none old; all = refl }
 
-module _ (s old new : List ℕ) (to i : ℕ) (w : Writing s old new to i) where
-  pub writing_on : (mid new' : List ℕ) (j to' left : ℕ) → i < length s → left ≡ length s - (i + 1)
-      → Put new to (octet_text (get_or s i 0)) mid j → Put mid j (end_text left) new' to' → Writing s old new' to' (i + 1)
+module _ (s : List ℕ) (old new : Page) (i : ℕ) (w : Writing s old new i) where
+  pub writing_on : (mid new' : Page) (left : ℕ) → i < length s → left ≡ length s - (i + 1)
+      → Wrote (octet_text (get_or s i 0)) new mid → Wrote (end_text left) mid new' → Writing s old new' (i + 1)
   unfolding hex_text octet_text end_text
-  writing_on mid new' j to' left h e p q =
+  writing_on mid new' left h e p q =
       let b = octet_text (get_or s i 0) in
       let d = drop (i + 1) s in
       let f : left ≡ length d = e ∙ sym (length-drop (i + 1) s) in
       record {
         text = (w.text ++ b) ++ end_text left;
-        put = put_after q (put_after p w.put);
+        put = wrote_after q (wrote_after p w.put);
         all =
             ap (λ (k : ℕ). ((w.text ++ b) ++ end_text k) ++ hex_text d) f
             ∙ append_assoc (w.text ++ b) (end_text (length d)) (hex_text d)
@@ -41,10 +43,10 @@ module _ (s old new : List ℕ) (to i : ℕ) (w : Writing s old new to i) where
             ∙ w.all;
       }
 
-  pub writing_done : length s ≤ i → Put old 0 (hex_text s) new to
+  pub writing_done : length s ≤ i → Wrote (hex_text s) old new
   unfolding hex_text
   writing_done h =
-      put_as (sym (append-nil w.text) ∙ ap (λ (l : List ℕ). w.text ++ hex_text l) (sym (drop_of_length-le s h)) ∙ w.all) w.put
+      wrote_as (sym (append-nil w.text) ∙ ap (λ (l : List ℕ). w.text ++ hex_text l) (sym (drop_of_length-le s h)) ∙ w.all) w.put
 
 -- ---- read
 
@@ -66,26 +68,29 @@ unfolding before
 joined_all [] u = refl
 joined_all (b ∷ t) u = ap (before b) (joined_all t u)
 
-pub record Reading (s old new : List ℕ) (half : Option ℕ) (to i : ℕ) : Type 0 where
+pub record Reading (s : List ℕ) (old new : Page) (half : Option ℕ) (i : ℕ) : Type 0 where
   pub said : List ℕ
-  pub put : Put old 0 said new to
+  pub put : Wrote said old new
   pub all : joined said (meant_from half (drop i s)) ≡ hexed_of s
+  pub few : length said ≤ i
 
-pub reading_none : (s old : List ℕ) → Reading s old old None 0 0
+pub reading_none : (s : List ℕ) (old : Page) → Reading s old old None 0
 unfolding hexed_of
-reading_none s old = record { said = []; put = put_none old 0; all = refl }
+reading_none s old = record { said = []; put = wrote_none old; all = refl; few = omega arith }
 
-module _ (s old new : List ℕ) (half : Option ℕ) (to i : ℕ) (r : Reading s old new half to i) where
+module _ (s : List ℕ) (old new : Page) (half : Option ℕ) (i : ℕ) (r : Reading s old new half i) where
   module _ (h : length s ≤ i) where
     ended : (o : Option ℕ) → half ≡ o → joined r.said (meant_from o []) ≡ hexed_of s
     ended o e =
         ap (λ (k : Option ℕ). joined r.said (meant_from k [])) (sym e)
         ∙ ap (λ (l : List ℕ). joined r.said (meant_from half l)) (sym (drop_of_length-le s h)) ∙ r.all
 
-    pub reading_done : half ≡ None → Laid (hexed_of s) old new to
+    pub reading_done : (first last : List ℕ) → half ≡ None → old.at ≡ 0 → old.out.now ≡ first → last ≡ new.out.now → length first < 2 ^ 63 → i < 2 ^ 63
+        → Laid (hexed_of s) first last new.at
     unfolding meant_from
-    reading_done e =
-        record { said = r.said; meant = sym (ended None e) ∙ joined_all r.said [] ∙ ap octets (append-nil r.said); put = r.put }
+    reading_done first last e z f l g k =
+        let p : Put old.out.now old.at r.said new.out.now new.at = wrote_put (rw f g) (omega (arith, r.few)) r.put in
+        record { said = r.said; meant = sym (ended None e) ∙ joined_all r.said [] ∙ ap octets (append-nil r.said); put = rw (sym f, l, sym z) p }
 
     pub reading_odd : (high : ℕ) → half ≡ Some high → hexed_of s ≡ nothing
     unfolding meant_from
@@ -106,24 +111,24 @@ module _ (s old new : List ℕ) (half : Option ℕ) (to i : ℕ) (r : Reading s 
     unfolding meant_by
     reading_other f = sym (by Other half f refl) ∙ joined_nothing r.said
 
-    pub reading_blank : m ≡ Blank → Reading s old new half to (i + 1)
+    pub reading_blank : m ≡ Blank → Reading s old new half (i + 1)
     unfolding meant_by
-    reading_blank f = record { said = r.said; put = r.put; all = by Blank half f refl }
+    reading_blank f = record { said = r.said; put = r.put; all = by Blank half f refl; few = omega (arith, r.few) }
 
     module _ (d : ℕ) (f : m ≡ Digit d) where
-      pub reading_half : half ≡ None → Reading s old new (Some d) to (i + 1)
+      pub reading_half : half ≡ None → Reading s old new (Some d) (i + 1)
       unfolding meant_by
-      reading_half g = record { said = r.said; put = r.put; all = by (Digit d) None f g }
+      reading_half g = record { said = r.said; put = r.put; all = by (Digit d) None f g; few = omega (arith, r.few) }
 
-      pub reading_octet : (new' : List ℕ) (to' high : ℕ) → half ≡ Some high → Put new to ((high * 16 + d) ∷ []) new' to'
-          → Reading s old new' None to' (i + 1)
+      pub reading_octet : (new' : Page) (high : ℕ) → half ≡ Some high → Wrote ((high * 16 + d) ∷ []) new new' → Reading s old new' None (i + 1)
       unfolding meant_by
-      reading_octet new' to' high g p =
+      reading_octet new' high g p =
           let b = high * 16 + d in
           record {
             said = r.said ++ (b ∷ []);
-            put = put_after p r.put;
+            put = wrote_after p r.put;
             all = joined_more r.said b (rest None) ∙ by (Digit d) (Some high) f g;
+            few = omega (arith, r.few, length-append r.said (b ∷ []));
           }
 
 -- ---- what a byte is

@@ -1,8 +1,10 @@
 -- What is said of a component or a parameter, by what its reader told; and the components of a parameter, one after the other.
 -- Assumes nothing.
 use Rattle.std.proofs.Common.{◌≡◌, ℕ, ◌+◌, ◌-◌, ◌*◌, ◌<◌, ◌≤◌, List, [], ◌∷◌, ◌++◌, length, sym, refl, ap, ◌∙◌, subst, append_assoc, append-nil, arith}
-use Rattle.text.specs.Text.{Put, ascii}
-use Rattle.text.proofs.Laws.{put_none, put_after, put_as}
+use Rattle.text.specs.Page.{Wrote}
+use Rattle.text.specs.Text.{ascii}
+use Rattle.text.specs.declared.page.Page.{Page}
+use Rattle.text.proofs.Writes.{wrote_none, wrote_after, wrote_as}
 use Rattle.wire.specs.Grammar.{component_of}
 use Rattle.wire.specs.Parameters.{Parameter, refused, holds, before, onward, walk_of, framed_of, held_in, parameter_of, told_of}
 use Rattle.wire.specs.declared.Component.{Component}
@@ -39,25 +41,25 @@ held_is (holds cs) h = refl
 
 -- ---- the loop over its components
 
-pub record Telling (s old new : List ℕ) (to place : ℕ) : Type 0 where
+pub record Telling (s : List ℕ) (old new : Page) (place : ℕ) : Type 0 where
   pub left : List Component
   pub walk : walk_of s place ≡ holds left
   pub text : List ℕ
-  pub put : Put old 0 text new to
+  pub put : Wrote text old new
   pub all : text ++ lines_text left ≡ walk_text (walk_of s 3)
 
-pub telling_none : (s old : List ℕ) → Held (walk_of s 3) → Telling s old old 0 3
+pub telling_none : (s : List ℕ) (old : Page) → Held (walk_of s 3) → Telling s old old 3
 unfolding walk_text
 telling_none s old h =
     let e = held_is (walk_of s 3) h in
-    record { left = components (walk_of s 3); walk = e; text = []; put = put_none old 0; all = ap walk_text (sym e) }
+    record { left = components (walk_of s 3); walk = e; text = []; put = wrote_none old; all = ap walk_text (sym e) }
 
-module _ (s old new : List ℕ) (to place : ℕ) (t : Telling s old new to place) where
-  pub telling_done : length s ≤ place → Put old 0 (walk_text (walk_of s 3)) new to
+module _ (s : List ℕ) (old new : Page) (place : ℕ) (t : Telling s old new place) where
+  pub telling_done : length s ≤ place → Wrote (walk_text (walk_of s 3)) old new
   unfolding lines_text
   telling_done h =
       let e : t.left ≡ [] = ap components (sym t.walk ∙ walk_end s place h) in
-      put_as (sym (append-nil t.text) ∙ ap (λ (cs : List Component). t.text ++ lines_text cs) (sym e) ∙ t.all) t.put
+      wrote_as (sym (append-nil t.text) ∙ ap (λ (cs : List Component). t.text ++ lines_text cs) (sym e) ∙ t.all) t.put
 
   module _ (a : Answer) (h : place < length s) (e : a ≡ component_of s place) where
     on : onward a (walk_of s) ≡ holds t.left
@@ -67,29 +69,26 @@ module _ (s old new : List ℕ) (to place : ℕ) (t : Telling s old new to place
     unfolding onward
     telling_never n met f = never n met t.left (ap (λ (x : Answer). onward x (walk_of s)) (sym f) ∙ on)
 
-    pub telling_refused : (r : Refusal) → a ≡ Err r → Put old 0 (walk_text (walk_of s 3)) new to
+    pub telling_refused : (r : Refusal) → a ≡ Err r → Wrote (walk_text (walk_of s 3)) old new
     telling_refused r f = telling_never r.number r.place f
 
     module _ (c : Component) (after : ℕ) (f : a ≡ Ok (c, after)) where
       pub telling_less : length s - after < length s - place
       telling_less = let l = read_on s place after c a e f in omega arith
 
-      pub telling_on : (new' : List ℕ) (to' : ℕ) → Put new to (own_line c) new' to' → Telling s old new' to' after
+      pub telling_on : (new' : Page) → Wrote (own_line c) new new' → Telling s old new' after
       unfolding onward lines_text
-      telling_on new' to' p =
+      telling_on new' p =
           let z = apart c (walk_of s after) t.left (ap (λ (x : Answer). onward x (walk_of s)) (sym f) ∙ on) in
           record {
             left = z.rest;
             walk = z.is;
             text = t.text ++ own_line c;
-            put = put_after p t.put;
+            put = wrote_after p t.put;
             all =
                 append_assoc t.text (own_line c) (lines_text z.rest)
                 ∙ ap (λ (cs : List Component). t.text ++ lines_text cs) (sym z.all) ∙ t.all;
           }
-
-      pub telling_few : (to' : ℕ) → to ≤ 355 * place → to' ≤ to + 355 → to' ≤ 355 * after
-      telling_few to' g k = let l = read_on s place after c a e f in omega arith
 
 -- ---- a parameter, by what its reader told
 
@@ -135,19 +134,19 @@ module _ (s : List ℕ) (w : Told) (e : w ≡ told_of (parameter_of s)) where
   pub several_held : (v : Whole) (k : ℕ) → w ≡ Ok v → v ≡ Whole.Several k → Held (walk_of s 3)
   several_held v k f g = let h = several_is k (f ∙ ap Ok g) in subst Held (walk_is s h) h
 
-  module _ (l₀ l₁ : List ℕ) (j : ℕ) where
-    said-by : (v : Told) → w ≡ v → Put l₀ 0 (by_told (walk_text (parameter_of s)) v) l₁ j → Put l₀ 0 (parameter_text (parameter_of s)) l₁ j
-    said-by v f p = put_as (ap (by_told (walk_text (parameter_of s))) (sym f ∙ e) ∙ said_as (parameter_of s)) p
+  module _ (old new : Page) where
+    said-by : (v : Told) → w ≡ v → Wrote (by_told (walk_text (parameter_of s)) v) old new → Wrote (parameter_text (parameter_of s)) old new
+    said-by v f p = wrote_as (ap (by_told (walk_text (parameter_of s))) (sym f ∙ e) ∙ said_as (parameter_of s)) p
 
-    pub said_refused : (r : Refusal) → w ≡ Err r → Put l₀ 0 (refused_text r.number r.place) l₁ j
-        → Put l₀ 0 (parameter_text (parameter_of s)) l₁ j
+    pub said_refused : (r : Refusal) → w ≡ Err r → Wrote (refused_text r.number r.place) old new
+        → Wrote (parameter_text (parameter_of s)) old new
     said_refused r f p = said-by (Err r) f p
 
-    pub said_none : (v : Whole) → w ≡ Ok v → v ≡ Whole.Empty → Put l₀ 0 (ascii "NONE\n") l₁ j → Put l₀ 0 (parameter_text (parameter_of s)) l₁ j
+    pub said_none : (v : Whole) → w ≡ Ok v → v ≡ Whole.Empty → Wrote (ascii "NONE\n") old new → Wrote (parameter_text (parameter_of s)) old new
     said_none v f g p = said-by (Ok Whole.Empty) (f ∙ ap Ok g) p
 
-    pub said_one : (v : Whole) (c : Component) → w ≡ Ok v → v ≡ Whole.One c → Put l₀ 0 (own_line c) l₁ j → Put l₀ 0 (parameter_text (parameter_of s)) l₁ j
+    pub said_one : (v : Whole) (c : Component) → w ≡ Ok v → v ≡ Whole.One c → Wrote (own_line c) old new → Wrote (parameter_text (parameter_of s)) old new
     said_one v c f g p = said-by (Ok (Whole.One c)) (f ∙ ap Ok g) p
 
-    pub said_several : (v : Whole) (k : ℕ) → w ≡ Ok v → v ≡ Whole.Several k → Put l₀ 0 (walk_text (walk_of s 3)) l₁ j → Put l₀ 0 (parameter_text (parameter_of s)) l₁ j
-    said_several v k f g p = let e = f ∙ ap Ok g in said-by (Ok (Whole.Several k)) e (put_as (ap walk_text (sym (walk_is s (several_is k e)))) p)
+    pub said_several : (v : Whole) (k : ℕ) → w ≡ Ok v → v ≡ Whole.Several k → Wrote (walk_text (walk_of s 3)) old new → Wrote (parameter_text (parameter_of s)) old new
+    said_several v k f g p = let e = f ∙ ap Ok g in said-by (Ok (Whole.Several k)) e (wrote_as (ap walk_text (sym (walk_is s (several_is k e)))) p)

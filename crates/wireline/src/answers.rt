@@ -1,80 +1,74 @@
 // What is said of a whole input: of the component at its start, or of a parameter.
-ghost use Rattle.std.specs.Prelude.{◌+◌, ◌^◌, ◌<◌, ◌≤◌, length};
-ghost use Rattle.text.specs.Text.{Put};
+ghost use Rattle.text.specs.Page.{Wrote};
 ghost use Rattle.wire.specs.Grammar.{component_of};
 ghost use Rattle.wire.specs.Parameters.{walk_of, parameter_of};
 ghost use Rattle.wireline.specs.Answers.{refused_text, read_text, answer_text, own_line, Held, walk_text, parameter_text};
 
 use crate::lines::put_line;
-use text::put;
-use wire::{Component, Whole};
+use text::Page;
+use wire::{Component, Refusal, Whole};
 
-fn put_refused(out: &mut [u8], n: u8, place: usize) -> usize
-    ensures { Put out.old 0 (refused_text n place) out.new result }
+fn put_refused(page: &mut Page<'_>, r: Refusal)
+    ensures { Wrote (refused_text r.number r.place) page.old page.new }
 {
-    let mut to = text::put_numbered(out, 0, b"REFUSED ", n as u32);
-    to = put(out, to, b' ');
-    to = text::put_value(out, to, place as u64);
-    put(out, to, b'\n')
+    page.numbered(b"REFUSED ", u32::from(r.number));
+    page.put(b' ');
+    page.value(r.place as u64);
+    page.put(b'\n');
 }
 
 // A component, and the place after it.
-fn put_read(out: &mut [u8], c: Component, next: usize) -> usize
-    ensures { Put out.old 0 (read_text c next) out.new result }
+fn put_read(page: &mut Page<'_>, c: Component, next: usize)
+    ensures { Wrote (read_text c next) page.old page.new }
 {
-    let mut to = put_line(out, 0, c);
-    to = text::put_word(out, to, b" NEXT ");
-    to = text::put_value(out, to, next as u64);
-    put(out, to, b'\n')
+    put_line(page, c);
+    page.word(b" NEXT ");
+    page.value(next as u64);
+    page.put(b'\n');
 }
 
 // The component that the bytes begin with.
-pub(crate) fn put_component(out: &mut [u8], s: &[u8]) -> usize
-    ensures { Put out.old 0 (answer_text (component_of s.now 0)) out.new result }
+pub(crate) fn put_component(page: &mut Page<'_>, s: &[u8])
+    ensures { Wrote (answer_text (component_of s.now 0)) page.old page.new }
 {
     match wire::read_component(s, 0) {
-        Err(r) => put_refused(out, r.number, r.place),
-        Ok((c, next)) => put_read(out, c, next),
+        Err(r) => put_refused(page, r),
+        Ok((c, next)) => put_read(page, c, next),
     }
 }
 
 // A component on a line of its own.
-fn put_own(out: &mut [u8], at: usize, c: Component) -> usize
-    requires { at < 2 ^ 57 }
-    ensures put { Put out.old at (own_line c) out.new result }
-    ensures upper_bound { result ≤ at + 355 }
+fn put_own(page: &mut Page<'_>, c: Component)
+    ensures { Wrote (own_line c) page.old page.new }
 {
-    let to = put_line(out, at, c);
-    put(out, to, b'\n')
+    put_line(page, c);
+    page.put(b'\n');
 }
 
 // The components from place 3 on, of a parameter that was read: none of them is refused.
-fn put_each(out: &mut [u8], s: &[u8]) -> usize
-    requires { Held (walk_of s.now 3) × (length s.now ≤ 65536) }
-    ensures { Put out.old 0 (walk_text (walk_of s.now 3)) out.new result }
+fn put_each(page: &mut Page<'_>, s: &[u8])
+    requires { Held (walk_of s.now 3) }
+    ensures { Wrote (walk_text (walk_of s.now 3)) page.old page.new }
 {
-    let mut to = 0;
     let mut place = 3;
     // Kept: the next place is what the reader answers, and no count.
     while place < s.len() {
         let Ok((c, next)) = wire::read_component(s, place) else {
-            return to;
+            return;
         };
-        to = put_own(out, to, c);
+        put_own(page, c);
         place = next;
     }
-    to
 }
 
 // A whole parameter.
-pub(crate) fn put_parameter(out: &mut [u8], s: &[u8]) -> usize
-    requires { length s.now ≤ 65536 }
-    ensures { Put out.old 0 (parameter_text (parameter_of s.now)) out.new result }
+pub(crate) fn put_parameter(page: &mut Page<'_>, s: &[u8])
+    ensures { Wrote (parameter_text (parameter_of s.now)) page.old page.new }
 {
     match wire::read_parameter(s) {
-        Err(r) => put_refused(out, r.number, r.place),
-        Ok(Whole::Empty) => text::put_word(out, 0, b"NONE\n"),
-        Ok(Whole::One(c)) => put_own(out, 0, c),
-        Ok(Whole::Several(_)) => put_each(out, s),
+        Err(r) => put_refused(page, r),
+        Ok(Whole::Empty) => page.word(b"NONE\n"),
+        Ok(Whole::One(c)) => put_own(page, c),
+        Ok(Whole::Several(_)) => put_each(page, s),
     }
 }

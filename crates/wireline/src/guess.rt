@@ -8,6 +8,7 @@ ghost use Rattle.wireline.specs.Lines.{line_in};
 use crate::hex::{HexByte, meaning};
 use crate::lines::put_line_in;
 use pieces::{after, has, value, word};
+use text::Page;
 use wire::{Component, Number, Unwritten};
 
 // No part's word stands before the fourth; the operation CALLED does.
@@ -125,8 +126,13 @@ fn says(line: &[u8], forms: u8, c: Component) -> bool
     ensures { result ≡ true → line.now ≡ line_in forms c }
 {
     let mut words = [0u8; 354];
-    let n = put_line_in(&mut words, 0, forms, c);
-    line == &words[..n]
+    let mut page = Page::new(&mut words);
+    put_line_in(&mut page, forms, c);
+    let n = page.at;
+    match words.get(..n) {
+        Some(said) => line == said,
+        None => false,
+    }
 }
 
 // The component that a line says, and the forms of its numbers.

@@ -1,197 +1,156 @@
 // A component's line: its kind, its operation or error, its identifier, and its parts in bit order.
-ghost use Rattle.std.specs.Prelude.{◌+◌, ◌^◌, ◌<◌, ◌≤◌, [], ◌++◌, length};
+ghost use Rattle.std.specs.Prelude.{[], ◌++◌};
 ghost use Rattle.text.specs.Choose.{if_so};
-ghost use Rattle.text.specs.Text.{Put, ascii, numbered};
-ghost use Rattle.wireline.specs.Lines.{digits_text, counted_text};
-ghost use Rattle.wireline.specs.Lines.{flags_text, values_text, operation_text, with_operation, head_text, id_text, line_in, line_text};
+ghost use Rattle.text.specs.Page.{Wrote};
+ghost use Rattle.text.specs.Text.{ascii, numbered};
+ghost use Rattle.wireline.specs.Lines.{digits_text, counted_text, flags_text, values_text};
+ghost use Rattle.wireline.specs.Lines.{operation_text, with_operation, head_text, id_text, line_in, line_text};
 
 use crate::hex::put_octet;
+use text::Page;
 use wire::{Component, Number};
 
 // The forms of a line's numbers, where each is said by its digits.
 pub(crate) const DIGITS: u8 = 0;
 
 // A word where its part is present.
-fn put_if(out: &mut [u8], at: usize, present: bool, word: &[u8]) -> usize
-    requires { at + length word.now < 2 ^ 61 }
-    ensures put { Put out.old at (if_so present word.now []) out.new result }
-    ensures upper_bound { result ≤ at + length word.now }
+fn put_if(page: &mut Page<'_>, present: bool, word: &[u8])
+    ensures { Wrote (if_so present word.now []) page.old page.new }
 {
     if present {
-        text::put_word(out, at, word)
-    } else {
-        at
+        page.word(word);
     }
 }
 
 // A number by its digits, as many as its count.
-fn put_digits(out: &mut [u8], at: usize, n: Number) -> usize
-    requires { at < 2 ^ 60 }
-    ensures put { Put out.old at (digits_text n) out.new result }
-    ensures upper_bound { result ≤ at + 128 }
+fn put_digits(page: &mut Page<'_>, n: Number)
+    ensures { Wrote (digits_text n) page.old page.new }
 {
-    let to = put_if(out, at, n.count / 128 == 1, b"+");
-    text::put_digits(out, to, n.value, usize::from(n.count % 128))
+    put_if(page, n.count / 128 == 1, b"+");
+    page.digits(n.value, n.count % 128);
 }
 
 // A number by its count and its value.
-fn put_counted(out: &mut [u8], at: usize, n: Number) -> usize
-    requires { at < 2 ^ 60 }
-    ensures put { Put out.old at (counted_text n) out.new result }
-    ensures upper_bound { result ≤ at + 40 }
+fn put_counted(page: &mut Page<'_>, n: Number)
+    ensures { Wrote (counted_text n) page.old page.new }
 {
-    let mut to = put_if(out, at, n.count / 128 == 1, b"+");
-    to = text::put_dec(out, to, u32::from(n.count % 128));
-    to = text::put(out, to, b':');
-    text::put_value(out, to, n.value)
+    put_if(page, n.count / 128 == 1, b"+");
+    page.decimal(u32::from(n.count % 128));
+    page.put(b':');
+    page.value(n.value);
 }
 
-fn put_number(out: &mut [u8], at: usize, counted: bool, n: Number) -> usize
-    requires { at < 2 ^ 60 }
-    ensures put { Put out.old at (if_so counted (counted_text n) (digits_text n)) out.new result }
-    ensures upper_bound { result ≤ at + 128 }
+fn put_number(page: &mut Page<'_>, counted: bool, n: Number)
+    ensures { Wrote (if_so counted (counted_text n) (digits_text n)) page.old page.new }
 {
     if counted {
-        put_counted(out, at, n)
+        put_counted(page, n);
     } else {
-        put_digits(out, at, n)
+        put_digits(page, n);
     }
 }
 
 // A word and a number where their part is present.
-fn put_party(
-    out: &mut [u8],
-    at: usize,
-    present: bool,
-    word: &[u8],
-    counted: bool,
-    n: Number,
-) -> usize
-    requires { at + length word.now < 2 ^ 60 }
-    ensures put { Put out.old at (if_so present (word.now ++ if_so counted (counted_text n) (digits_text n)) []) out.new result }
-    ensures upper_bound { result ≤ at + length word.now + 128 }
+fn put_party(page: &mut Page<'_>, present: bool, word: &[u8], counted: bool, n: Number)
+    ensures { Wrote (if_so present (word.now ++ if_so counted (counted_text n) (digits_text n)) []) page.old page.new }
 {
     if present {
-        let to = text::put_word(out, at, word);
-        put_number(out, to, counted, n)
-    } else {
-        at
+        page.word(word);
+        put_number(page, counted, n);
     }
 }
 
-fn put_duration(out: &mut [u8], at: usize, present: bool, t: u32) -> usize
-    requires { at < 2 ^ 60 }
-    ensures put { Put out.old at (if_so present (numbered (ascii " DURATION ") t) []) out.new result }
-    ensures upper_bound { result ≤ at + 20 }
+fn put_duration(page: &mut Page<'_>, present: bool, t: u32)
+    ensures { Wrote (if_so present (numbered (ascii " DURATION ") t) []) page.old page.new }
 {
     if present {
-        text::put_numbered(out, at, b" DURATION ", t)
-    } else {
-        at
+        page.numbered(b" DURATION ", t);
     }
 }
 
 // The parts that are words alone.
-fn put_flags(out: &mut [u8], at: usize, parts: u8) -> usize
-    requires { at < 2 ^ 60 }
-    ensures put { Put out.old at (flags_text parts) out.new result }
-    ensures upper_bound { result ≤ at + 38 }
+fn put_flags(page: &mut Page<'_>, parts: u8)
+    ensures { Wrote (flags_text parts) page.old page.new }
 {
-    let mut to = put_if(out, at, parts % 2 == 1, b" TRANSFER");
-    to = put_if(out, to, parts / 2 % 2 == 1, b" ACCEPTED");
-    to = put_if(out, to, parts / 4 % 2 == 1, b" AS-TRANSFER");
-    put_if(out, to, parts / 8 % 2 == 1, b" PARTIAL")
+    put_if(page, parts % 2 == 1, b" TRANSFER");
+    put_if(page, parts / 2 % 2 == 1, b" ACCEPTED");
+    put_if(page, parts / 4 % 2 == 1, b" AS-TRANSFER");
+    put_if(page, parts / 8 % 2 == 1, b" PARTIAL");
 }
 
 // The parts that have a value.
-fn put_values(out: &mut [u8], at: usize, forms: u8, c: Component) -> usize
-    requires { at < 2 ^ 59 }
-    ensures put { Put out.old at (values_text forms c) out.new result }
-    ensures upper_bound { result ≤ at + 293 }
+fn put_values(page: &mut Page<'_>, forms: u8, c: Component)
+    ensures { Wrote (values_text forms c) page.old page.new }
 {
-    let mut to = at;
-    to = put_party(
-        out,
-        to,
+    put_party(
+        page,
         c.parts / 16 % 2 == 1,
         b" CALLING ",
         forms % 2 == 1,
         c.calling,
     );
-    to = put_party(
-        out,
-        to,
+    put_party(
+        page,
         c.parts / 32 % 2 == 1,
         b" CALLED ",
         forms / 2 % 2 == 1,
         c.called,
     );
-    put_duration(out, to, c.parts / 64 % 2 == 1, c.duration)
+    put_duration(page, c.parts / 64 % 2 == 1, c.duration);
 }
 
-fn put_operation(out: &mut [u8], at: usize, operation: u8) -> usize
-    requires { at < 2 ^ 60 }
-    ensures put { Put out.old at (operation_text operation) out.new result }
-    ensures upper_bound { result ≤ at + 11 }
+fn put_operation(page: &mut Page<'_>, operation: u8)
+    ensures { Wrote (operation_text operation) page.old page.new }
 {
     match operation {
-        1 => text::put_word(out, at, b" SETUP"),
-        2 => text::put_word(out, at, b" ACTIVE"),
-        3 => text::put_word(out, at, b" CALLED"),
-        _ => text::put_numbered(out, at, b" ", u32::from(operation)),
+        1 => page.word(b" SETUP"),
+        2 => page.word(b" ACTIVE"),
+        3 => page.word(b" CALLED"),
+        _ => page.numbered(b" ", u32::from(operation)),
     }
 }
 
-fn put_with_operation(out: &mut [u8], at: usize, word: &[u8], operation: u8) -> usize
-    requires { at + length word.now < 2 ^ 60 }
-    ensures put { Put out.old at (with_operation word.now operation) out.new result }
-    ensures upper_bound { result ≤ at + length word.now + 11 }
+fn put_with_operation(page: &mut Page<'_>, word: &[u8], operation: u8)
+    ensures { Wrote (with_operation word.now operation) page.old page.new }
 {
-    let to = text::put_word(out, at, word);
-    put_operation(out, to, operation)
+    page.word(word);
+    put_operation(page, operation);
 }
 
-fn put_head(out: &mut [u8], at: usize, kind: u8, item: u8) -> usize
-    requires { at < 2 ^ 59 }
-    ensures put { Put out.old at (head_text kind item) out.new result }
-    ensures upper_bound { result ≤ at + 17 }
+fn put_head(page: &mut Page<'_>, kind: u8, item: u8)
+    ensures { Wrote (head_text kind item) page.old page.new }
 {
     match kind {
-        1 => put_with_operation(out, at, b"INVOKE", item),
-        2 => put_with_operation(out, at, b"RESULT", item),
-        3 => text::put_numbered(out, at, b"ERROR ", u32::from(item)),
-        _ => text::put_word(out, at, b"REJECT"),
+        1 => put_with_operation(page, b"INVOKE", item),
+        2 => put_with_operation(page, b"RESULT", item),
+        3 => page.numbered(b"ERROR ", u32::from(item)),
+        _ => page.word(b"REJECT"),
     }
 }
 
-fn put_id(out: &mut [u8], at: usize, id: u16) -> usize
-    requires { at < 2 ^ 60 }
-    ensures put { Put out.old at (id_text id) out.new result }
-    ensures upper_bound { result ≤ at + 6 }
+fn put_id(page: &mut Page<'_>, id: u16)
+    ensures { Wrote (id_text id) page.old page.new }
 {
     if id == 256 {
-        return text::put_word(out, at, b" ID -");
+        page.word(b" ID -");
+    } else {
+        page.word(b" ID ");
+        put_octet(page, (id % 256) as u8);
     }
-    let to = text::put_word(out, at, b" ID ");
-    put_octet(out, to, (id % 256) as u8)
 }
 
 // The line of a component, its numbers in these forms: 1 where the calling number is said by count and value, 2 where the called one is.
-pub(crate) fn put_line_in(out: &mut [u8], at: usize, forms: u8, c: Component) -> usize
-    requires { at < 2 ^ 58 }
-    ensures put { Put out.old at (line_in forms c) out.new result }
-    ensures upper_bound { result ≤ at + 354 }
+pub(crate) fn put_line_in(page: &mut Page<'_>, forms: u8, c: Component)
+    ensures { Wrote (line_in forms c) page.old page.new }
 {
-    let mut to = put_head(out, at, c.kind, c.item);
-    to = put_id(out, to, c.id);
-    to = put_flags(out, to, c.parts);
-    put_values(out, to, forms, c)
+    put_head(page, c.kind, c.item);
+    put_id(page, c.id);
+    put_flags(page, c.parts);
+    put_values(page, forms, c);
 }
 
-pub(crate) fn put_line(out: &mut [u8], at: usize, c: Component) -> usize
-    requires { at < 2 ^ 58 }
-    ensures put { Put out.old at (line_text c) out.new result }
-    ensures upper_bound { result ≤ at + 354 }
+pub(crate) fn put_line(page: &mut Page<'_>, c: Component)
+    ensures { Wrote (line_text c) page.old page.new }
 {
-    put_line_in(out, at, DIGITS, c)
+    put_line_in(page, DIGITS, c);
 }

@@ -3,7 +3,7 @@
 // hexadecimal text. An input that is no such text, or no such line, has a message on standard error, and nothing is written.
 #![tactic(auto)]
 
-ghost use Rattle.std.specs.Prelude.{◌+◌, ◌^◌, ◌<◌, ◌≤◌, length, IfSome};
+ghost use Rattle.std.specs.Prelude.{◌+◌, ◌^◌, ◌<◌, IfSome};
 
 mod answers;
 mod guess;
@@ -13,6 +13,7 @@ mod lines;
 use std::env::FillError;
 use std::io;
 use std::rt::Env;
+use text::Page;
 use wire::Unwritten;
 
 // The bytes of a component, and of a text that says them: two digits, a blank and more for each.
@@ -62,9 +63,9 @@ fn too_long(rt: &impl Print) -> io::Result<()> {
     rt.write_all(b"REFUSED 8\n")
 }
 
-// An answer of n bytes. One that did not fit would be too long, but none is.
-fn tell(rt: &impl Print, out: &[u8], n: usize) -> io::Result<()> {
-    match out.get(..n) {
+// What a page says. One that its room did not hold would be too long, but none is.
+fn tell(rt: &impl Print, page: &Page<'_>) -> io::Result<()> {
+    match page.out.get(..page.at) {
         Some(answer) => rt.write_all(answer),
         None => too_long(rt),
     }
@@ -72,16 +73,16 @@ fn tell(rt: &impl Print, out: &[u8], n: usize) -> io::Result<()> {
 
 fn tell_component(rt: &impl Print, s: &[u8]) -> io::Result<()> {
     let mut out = input::room::<ANSWER>();
-    let n = answers::put_component(&mut out, s);
-    tell(rt, &out, n)
+    let mut page = Page::new(&mut out);
+    answers::put_component(&mut page, s);
+    tell(rt, &page)
 }
 
-fn tell_parameter(rt: &impl Print, s: &[u8]) -> io::Result<()>
-    requires { length s.now ≤ 65536 }
-{
+fn tell_parameter(rt: &impl Print, s: &[u8]) -> io::Result<()> {
     let mut out = input::room::<ANSWER>();
-    let n = answers::put_parameter(&mut out, s);
-    tell(rt, &out, n)
+    let mut page = Page::new(&mut out);
+    answers::put_parameter(&mut page, s);
+    tell(rt, &page)
 }
 
 fn answer(rt: &(impl Env + Print), s: &[u8]) -> io::Result<()> {
@@ -126,21 +127,18 @@ fn read(rt: &(impl Env + Input + Print + Eprint)) -> io::Result<()> {
 }
 
 // A component's bytes.
-fn tell_bytes(rt: &(impl Env + Print), s: &[u8]) -> io::Result<()>
-    requires { length s.now ≤ 65536 }
-{
+fn tell_bytes(rt: &(impl Env + Print), s: &[u8]) -> io::Result<()> {
     if option(rt, b"-x").is_none() {
         return rt.write_all(s);
     }
     let mut out = input::room::<ANSWER>();
-    let n = hex::put_hex(&mut out, s);
-    tell(rt, &out, n)
+    let mut page = Page::new(&mut out);
+    hex::put_hex(&mut page, s);
+    tell(rt, &page)
 }
 
 // So many bytes of a room. More than it has would be too many, but never are.
-fn tell_front(rt: &(impl Env + Print), out: &[u8], n: usize) -> io::Result<()>
-    requires { length out.now ≤ 65536 }
-{
+fn tell_front(rt: &(impl Env + Print), out: &[u8], n: usize) -> io::Result<()> {
     match out.get(..n) {
         Some(front) => tell_bytes(rt, front),
         None => too_long(rt),
@@ -148,9 +146,7 @@ fn tell_front(rt: &(impl Env + Print), out: &[u8], n: usize) -> io::Result<()>
 }
 
 // The component that a line says, written into a room.
-fn write_in(rt: &(impl Env + Print + Eprint), line: &[u8], out: &mut [u8]) -> io::Result<()>
-    requires { length out.old ≤ 65536 }
-{
+fn write_in(rt: &(impl Env + Print + Eprint), line: &[u8], out: &mut [u8]) -> io::Result<()> {
     match guess::write(line, out) {
         None => eprintln!(rt; "wire: not understood: no component has this line"),
         Some(Ok(n)) => tell_front(rt, out, n),
@@ -165,9 +161,7 @@ fn write_room(
     line: &[u8],
     out: &mut [u8],
     to: usize,
-) -> io::Result<()>
-    requires { length out.old ≤ 65536 }
-{
+) -> io::Result<()> {
     match out.get_mut(..to) {
         Some(room) => write_in(rt, line, room),
         None => eprintln!(rt; "wire: a room has at most 65,535 bytes"),

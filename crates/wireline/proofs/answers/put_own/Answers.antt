@@ -1,7 +1,7 @@
 use Rattle.wireline.specs.Answers.{own_line}
-use Rattle.text.proofs.Laws.{puts}
+use Rattle.text.proofs.Writes.{writes}
 use Rattle.wireline.proofs.answers.put_own.Goals as goal
 
-pub returns-clause-put : goal.returns-clause-put
+pub returns : goal.returns
 unfolding own_line
-returns-clause-put c = search puts
+returns c = search writes

@@ -1,9 +1,8 @@
-use Rattle.std.proofs.Common.{rules}
 use Rattle.wireline.proofs.Told.{several_held, said_refused, said_none, said_one, said_several}
 use Rattle.wireline.proofs.answers.put_parameter.Goals as goal
 
 pub put_each-requires : goal.put_each-requires
-put_each-requires c = (search (several_held), search rules)
+put_each-requires c = search (several_held)
 
 pub returns-in-Err : goal.returns-in-Err
 returns-in-Err c = search (said_refused)

@@ -1,5 +1,7 @@
-use Rattle.wireline.proofs.Texts.{read_as}
+use Rattle.wireline.specs.Answers.{read_text}
+use Rattle.text.proofs.Writes.{writes}
 use Rattle.wireline.proofs.answers.put_read.Goals as goal
 
 pub returns : goal.returns
-returns c = search (read_as)
+unfolding read_text
+returns c = search writes

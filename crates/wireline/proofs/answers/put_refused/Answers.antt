@@ -1,5 +1,7 @@
-use Rattle.wireline.proofs.Texts.{refused_as}
+use Rattle.wireline.specs.Answers.{refused_text}
+use Rattle.text.proofs.Writes.{wrote_after}
 use Rattle.wireline.proofs.answers.put_refused.Goals as goal
 
 pub returns : goal.returns
-returns c = search (refused_as)
+unfolding refused_text
+returns c = wrote_after c.put-2.ensures (wrote_after c.value.ensures (wrote_after c.put.ensures (rw c.from.ensures at c.numbered.ensures)))

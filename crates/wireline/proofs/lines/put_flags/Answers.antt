@@ -1,10 +1,9 @@
-use Rattle.std.proofs.Common.{rules}
 use Rattle.text.specs.Choose.{if_eq}
-use Rattle.text.proofs.Laws.{put_after}
 use Rattle.wire.specs.Texts.{text_if}
 use Rattle.wireline.specs.Lines.{flags_text}
+use Rattle.text.proofs.Writes.{wrote_after}
 use Rattle.wireline.proofs.lines.put_flags.Goals as goal
 
-pub returns-clause-put : goal.returns-clause-put
+pub returns : goal.returns
 unfolding flags_text text_if if_eq
-returns-clause-put c = search (put_after, rules)
+returns c = search (wrote_after)

@@ -1,11 +1,11 @@
 use Rattle.wireline.specs.Lines.{id_text}
-use Rattle.text.proofs.Laws.{puts}
+use Rattle.text.proofs.Writes.{writes}
 use Rattle.wireline.proofs.lines.put_id.Goals as goal
 
-pub returns-then-id-eq256-clause-put : goal.returns-then-id-eq256-clause-put
+pub returns-then-id-eq256 : goal.returns-then-id-eq256
 unfolding id_text
-returns-then-id-eq256-clause-put c = search puts
+returns-then-id-eq256 c = search writes
 
-pub returns-clause-put : goal.returns-clause-put
+pub returns-else-id-eq256 : goal.returns-else-id-eq256
 unfolding id_text
-returns-clause-put c = search puts
+returns-else-id-eq256 c = search writes

@@ -1,11 +1,8 @@
-use Rattle.text.specs.Choose.{if_so}
-use Rattle.text.proofs.Laws.{put_none}
+use Rattle.text.proofs.Writes.{wrote_so, wrote_not, writes}
 use Rattle.wireline.proofs.lines.put_if.Goals as goal
 
-pub returns-then-present-clause-put : goal.returns-then-present-clause-put
-unfolding if_so
-returns-then-present-clause-put c = rw c.if-present.true c.put_word.ensures
+pub returns-then-present : goal.returns-then-present
+returns-then-present c = search (wrote_so, wrote_not, writes)
 
-pub returns-else-present-clause-put : goal.returns-else-present-clause-put
-unfolding if_so
-returns-else-present-clause-put c = rw c.if-present.false (put_none _ _)
+pub returns-else-present : goal.returns-else-present
+returns-else-present c = search (wrote_so, wrote_not, writes)

@@ -1,5 +1,7 @@
-use Rattle.wireline.proofs.Texts.{line_as}
+use Rattle.wireline.specs.Lines.{line_in}
+use Rattle.text.proofs.Writes.{writes}
 use Rattle.wireline.proofs.lines.put_line_in.Goals as goal
 
-pub returns-clause-put : goal.returns-clause-put
-returns-clause-put c = search (line_as)
+pub returns : goal.returns
+unfolding line_in
+returns c = search writes

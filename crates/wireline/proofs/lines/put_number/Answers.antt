@@ -1,10 +1,8 @@
-use Rattle.text.specs.Choose.{if_so}
+use Rattle.text.proofs.Writes.{wrote_so, wrote_not, writes}
 use Rattle.wireline.proofs.lines.put_number.Goals as goal
 
-pub returns-then-counted-clause-put : goal.returns-then-counted-clause-put
-unfolding if_so
-returns-then-counted-clause-put c = rw c.if-counted.true c.put_counted.ensures.put
+pub returns-then-counted : goal.returns-then-counted
+returns-then-counted c = search (wrote_so, wrote_not, writes)
 
-pub returns-else-counted-clause-put : goal.returns-else-counted-clause-put
-unfolding if_so
-returns-else-counted-clause-put c = rw c.if-counted.false c.put_digits.ensures.put
+pub returns-else-counted : goal.returns-else-counted
+returns-else-counted c = search (wrote_so, wrote_not, writes)

@@ -1,7 +1,7 @@
 use Rattle.wireline.specs.Lines.{with_operation}
-use Rattle.text.proofs.Laws.{puts}
+use Rattle.text.proofs.Writes.{writes}
 use Rattle.wireline.proofs.lines.put_with_operation.Goals as goal
 
-pub returns-clause-put : goal.returns-clause-put
+pub returns : goal.returns
 unfolding with_operation
-returns-clause-put c = search puts
+returns c = search writes
