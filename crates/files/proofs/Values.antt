@@ -3,9 +3,11 @@
 use Rattle.std.proofs.Common.{◌≡◌, ℕ, zero, suc, ◌+◌, ◌-◌, ◌/◌, ◌^◌, ◌<◌, ◌≤◌, List, [], ◌∷◌, ◌++◌, sym, refl, ap, ◌∙◌, append_assoc, append-nil, pow-suc, zero-add, div-one, arith}
 use native.Mathlib.Nat.{pow-succ', one-le-pow, div-div-eq-div-mul}
 use Rattle.text.specs.Choose.{if_lt}
-use Rattle.text.specs.Text.{Put, digit_of, last_digits, decimal_by, decimal}
+use Rattle.text.specs.Text.{digit_of, last_digits, decimal_by, decimal}
 use Rattle.text.proofs.Cases.{yes_lt, no_lt}
-use Rattle.text.proofs.Laws.{put_as}
+use Rattle.text.proofs.Writes.{wrote_as}
+use Rattle.text.specs.Page.{Wrote}
+use Rattle.text.specs.declared.page.Page.{Page}
 use Rattle.files.specs.Words.{value_text}
 
 -- where the digits have room, more room changes nothing
@@ -31,15 +33,15 @@ by_first (suc j) k (suc m) n e h =
     (div-div-eq-div-mul n 10 (10 ^ j) ∙ ap (λ (x : ℕ). n / x) (sym (pow-succ' 10 j)))
 
 -- a value that `decimal` has room for, and one whose first digits, suc d at most, it has room for
-module _ (a b : List ℕ) (i j n : ℕ) where
-  pub put_short : n < 10 ^ 10 → Put a i (decimal n) b j → Put a i (value_text n) b j
+module _ {a b : Page} (n : ℕ) where
+  pub wrote_short : n < 10 ^ 10 → Wrote (decimal n) a b → Wrote (value_text n) a b
   unfolding decimal value_text
-  put_short h p = put_as (by_room 9 19 n (omega arith) h) p
+  wrote_short h p = wrote_as (by_room 9 19 n (omega arith) h) p
 
-  pub put_long : (d k : ℕ) → (d ≤ 9) × (d + k ≤ 19) × (10 ^ k ≤ n) × (n / 10 ^ k < 10 ^ suc d) → Put a i (decimal (n / 10 ^ k) ++ last_digits k n) b j
-      → Put a i (value_text n) b j
+  pub wrote_long : (d k : ℕ) → (d ≤ 9) × (d + k ≤ 19) × (10 ^ k ≤ n) × (n / 10 ^ k < 10 ^ suc d) → Wrote (decimal (n / 10 ^ k) ++ last_digits k n) a b
+      → Wrote (value_text n) a b
   unfolding decimal value_text
-  put_long d k (f, g, h, l) p =
+  wrote_long d k (f, g, h, l) p =
       let x = n / 10 ^ k in
       let e = sym (by_room d 9 x f l) ∙ by_room d (19 - k) x (omega arith) l in
-      put_as (ap (λ (t : List ℕ). t ++ last_digits k n) e ∙ sym (by_first k (suc (19 - k)) 20 n (omega arith) h)) p
+      wrote_as (ap (λ (t : List ℕ). t ++ last_digits k n) e ∙ sym (by_first k (suc (19 - k)) 20 n (omega arith) h)) p

@@ -1,15 +1,18 @@
 -- One text after another is the two joined.
 use mathlib.Core.Path.{◌≡◌, refl, sym, ap, ◌∙◌}
+use mathlib.Core.Bool.{Bool, true, false}
 use mathlib.Core.List.{List, [], ◌∷◌, ◌++◌}
 use mathlib.Core.Logic.{◌⊎◌, inl, inr}
 use Prim.Native.Nat.{ℕ, ◌+◌, ◌^◌, ◌≤◌, ◌<◌}
 use native.Mathlib.Omega.{arith}
-use lib.ListN.{length, length-append}
+use lib.ListN.{length, take, length-append}
 use lib.Seq.{sets, length-sets}
 use Rattle.std.proofs.lemmas.Bool.{cases_lt}
+use Rattle.text.specs.Choose.{if_lt, if_eq, if_so}
 use Rattle.text.specs.Text.{Put, digit_of, decimal, last_digits}
+use Rattle.text.proofs.Cases.{yes_so, no_so, yes_lt, no_lt, yes_eq, no_eq}
 use Rattle.text.proofs.Numbers.{by_last, count_is}
-use Rattle.text.proofs.Laws.{put_past, sets_append}
+use Rattle.text.proofs.Laws.{put_past, put_first, sets_append}
 use Rattle.text.specs.Page.{Wrote, moved}
 use Rattle.text.specs.declared.page.Page.{Page}
 
@@ -53,9 +56,34 @@ pub put_wrote : {a b : Page} {t : List ℕ} → b.out.ghost_name ≡ a.out.ghost
     → (length a.out.now < 2 ^ 63 → Put a.out.now a.at t b.out.now (a.at + length t)) → Wrote t a b
 put_wrote e f p = record { same = e; bytes = λ h. (p h).bytes; place = f }
 
+-- a text that was put at the start of a page, all of it, is what the buffer begins with
+pub wrote_first : {a b : Page} {t : List ℕ} → length a.out.now < 2 ^ 63 → a.at ≡ 0 → length t ≤ length a.out.now → Wrote t a b → take b.at b.out.now ≡ t
+wrote_first {a} {b} {t} h z g p =
+    let e : b.at ≡ 0 + length t = omega (arith, p.place, z, h, g) in
+    put_first (omega (arith, e, g)) (record { bytes = p.bytes h ∙ ap (λ (i : ℕ). sets a.out.now i t) z; place = e })
+
 -- the text of x where x is known
 pub wrote_by : {A : Type 0} (f : A → List ℕ) (x y : A) (a b : Page) → x ≡ y → Wrote (f y) a b → Wrote (f x) a b
 wrote_by f x y a b e p = wrote_as (ap f (sym e)) p
+
+-- a text that goes by a test
+pub wrote_yes : {a b : Page} {m n : ℕ} {s : List ℕ} (t : List ℕ) → m ≡ n → Wrote s a b → Wrote (if_eq m n s t) a b
+wrote_yes {m = m} {n = n} {s = s} t e p = wrote_as (yes_eq m n s s t e refl) p
+
+pub wrote_no : {a b : Page} {m n : ℕ} {t : List ℕ} (s : List ℕ) → (m ≡ n → ⊥) → Wrote t a b → Wrote (if_eq m n s t) a b
+wrote_no {m = m} {n = n} {t = t} s f p = wrote_as (no_eq m n t s t f refl) p
+
+pub wrote_below : {a b : Page} {m n : ℕ} {s : List ℕ} (t : List ℕ) → m < n → Wrote s a b → Wrote (if_lt m n s t) a b
+wrote_below {m = m} {n = n} {s = s} t h p = wrote_as (yes_lt m n s s t h refl) p
+
+pub wrote_above : {a b : Page} {m n : ℕ} {t : List ℕ} (s : List ℕ) → n ≤ m → Wrote t a b → Wrote (if_lt m n s t) a b
+wrote_above {m = m} {n = n} {t = t} s h p = wrote_as (no_lt m n t s t h refl) p
+
+pub wrote_so : {a b : Page} {x : Bool} {s : List ℕ} (t : List ℕ) → x ≡ true → Wrote s a b → Wrote (if_so x s t) a b
+wrote_so {x = x} {s = s} t h p = wrote_as (yes_so x s s t h refl) p
+
+pub wrote_not : {a b : Page} {x : Bool} {t : List ℕ} (s : List ℕ) → x ≡ false → Wrote t a b → Wrote (if_so x s t) a b
+wrote_not {x = x} {t = t} s h p = wrote_as (no_so x t s t h refl) p
 
 -- the digits of a number are its last ones, as many as there are
 pub all_digits : (n k : ℕ) → k ≡ length (decimal n) → last_digits k n ≡ decimal n
@@ -66,4 +94,4 @@ pub one_digit : (n d : ℕ) → d ≡ digit_of n → n < 10 → d ∷ [] ≡ dec
 unfolding last_digits
 one_digit n d e h = ap (λ (x : ℕ). x ∷ []) e ∙ all_digits n 1 (count_is 0 n (omega arith))
 
-pub ruleset writes = (wrote_none, wrote_after)
+pub ruleset writes = (wrote_none, wrote_after, wrote_yes, wrote_no)

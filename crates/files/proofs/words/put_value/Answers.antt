@@ -1,14 +1,14 @@
 use Rattle.std.proofs.Common.{arith}
-use Rattle.text.proofs.Laws.{put_after}
-use Rattle.files.proofs.Values.{put_short, put_long}
+use Rattle.text.proofs.Writes.{wrote_after}
+use Rattle.files.proofs.Values.{wrote_short, wrote_long}
 use Rattle.files.proofs.words.put_value.Goals as goal
 
-pub returns-then-n-lt1000000000-clause-put : goal.returns-then-n-lt1000000000-clause-put
-returns-then-n-lt1000000000-clause-put c = put_short _ _ _ _ _ (omega arith) c.put_dec.ensures.put
+pub returns-then-n-lt1000000000 : goal.returns-then-n-lt1000000000
+returns-then-n-lt1000000000 c = wrote_short _ (omega arith) c.decimal.ensures
 
-pub returns-then-n-lt1000000000000000000-clause-put : goal.returns-then-n-lt1000000000000000000-clause-put
-returns-then-n-lt1000000000000000000-clause-put c = put_long _ _ _ _ _ 9 9 (omega arith) (put_after c.put_digits.ensures.put c.put_dec-to.ensures.put)
+pub returns-then-n-lt1000000000000000000 : goal.returns-then-n-lt1000000000000000000
+returns-then-n-lt1000000000000000000 c = wrote_long _ 9 9 (omega arith) (wrote_after c.digits.ensures c.decimal-then-n-lt1000000000000000000.ensures)
 
-pub returns-else-n-lt1000000000000000000-clause-put : goal.returns-else-n-lt1000000000000000000-clause-put
-returns-else-n-lt1000000000000000000-clause-put c = put_long _ _ _ _ _ 1 18 (omega arith)
-    (put_after c.put_digits-else-n-lt1000000000000000000.ensures.put c.put_dec-to-else-n-lt1000000000000000000.ensures.put)
+pub returns-else-n-lt1000000000000000000 : goal.returns-else-n-lt1000000000000000000
+returns-else-n-lt1000000000000000000 c = wrote_long _ 1 18 (omega arith)
+    (wrote_after c.digits-else-n-lt1000000000000000000.ensures c.decimal-else-n-lt1000000000000000000.ensures)
