@@ -1,8 +1,8 @@
 -- The words of a record are no longer than 226 bytes, so that they fit in an array of as many.
 -- Assumes nothing.
-use Rattle.std.proofs.Common.{◌≡◌, ℕ, ◌+◌, ◌%◌, ◌≤◌, Bool, true, false, List, [], ◌++◌, length, arith, length-append, leb-true}
+use Rattle.std.proofs.Common.{ℕ, ◌+◌, ◌%◌, ◌≤◌, Bool, List, [], ◌++◌, length, arith, length-append, leb-true}
 use Rattle.text.specs.Choose.{if_lt, if_eq, if_so}
-use Rattle.text.specs.Text.{ascii, digit_of, last_digits, decimal_by, decimal, numbered}
+use Rattle.text.specs.Text.{ascii, last_digits, decimal, numbered}
 use Rattle.text.proofs.Cases.{both_so, both_lt, both_eq}
 use Rattle.text.proofs.Ends.{digits_length}
 use Rattle.text.proofs.Numbers.{by_most, count_most}

@@ -8,33 +8,27 @@ use Rattle.text.specs.Choose.{if_lt, if_eq, if_so}
 use Rattle.text.proofs.Cases.{yes_so, no_so, yes_lt, no_lt, both_so, both_lt, both_eq}
 use Rattle.text.proofs.Laws.{put_none, put_in, put_after, put_as}
 use Rattle.rows.specs.Valid.{event_ok, ordinal, bad_field_of}
-use Rattle.rows.specs.declared.Component.{Component}
 use Rattle.rows.specs.declared.Event.{Event}
 use Rattle.rows.specs.declared.Event.TheVariants.{Opening, Ask, Received, FromAccess, Expiry, Time}
 use Rattle.rows.specs.declared.Message.{Message}
-use Rattle.rows.specs.declared.Nature.{Nature}
-use Rattle.rows.specs.declared.Nature.TheVariants.{National, International}
 use Rattle.rows.specs.declared.Number.{Number}
 use Rattle.rows.proofs.Ranges.{none_bad_exactly, none_told, some_told}
-use Rattle.files.specs.Bodies.{count_byte, component_of, code_of, item_of, number_values, front_values, carried_values, kind_of, fields_of}
-use Rattle.files.specs.Bodies.{values_of, head_of, record_of, slot_head, slotted_of, entry_of, plain_at}
+use Rattle.files.specs.Bodies.{count_byte, code_of, item_of, number_values, front_values, carried_values, kind_of, fields_of}
+use Rattle.files.specs.Bodies.{values_of, head_of, record_of, slot_head, slotted_of, entry_of}
 use Rattle.files.specs.Bytes.{le_of, part}
 use Rattle.files.specs.Fields.{number_fields, opening_fields, ask_fields, front_fields, carried_fields, message_fields, access_fields}
 use Rattle.files.specs.Fields.{expiry_fields, time_fields}
 use Rattle.files.specs.Fields.{size_of, bytes_of}
 use Rattle.files.specs.Frames.{length_with, length_of, slotted_kind}
-use Rattle.files.specs.Write.{written_of, left_of, written_at, left_at, gives_back, slot_gives, slot_leaves, message_with}
-use Rattle.files.specs.Bodies.{Reading, got, stopped}
-use Rattle.files.specs.Frames.{stop_number}
+use Rattle.files.specs.Write.{written_of, left_of, written_at, left_at}
 use Rattle.files.specs.declared.Where.{Where}
 use Rattle.files.specs.declared.Where.TheVariants.{Plain, Slot}
 use Rattle.files.specs.declared.Unwritten.{Unwritten}
 use Rattle.files.specs.declared.Unwritten.TheVariants.{BadField, NoRoom}
 use Rattle.files.proofs.BothWays.{record_length, record_range, slot_head_length, slotted_length}
 use Rattle.files.proofs.Records.{not_one, message_size}
-use Rattle.files.proofs.Same.{answered_of, held_of, HandedOver}
+use Rattle.files.proofs.Same.{answered_of, held_of}
 use Rattle.std.specs.Prelude.{None}
-use Rattle.files.specs.declared.Unreadable.{Unreadable}
 
 -- ---- the bytes of a number
 

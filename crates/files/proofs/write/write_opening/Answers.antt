@@ -1,4 +1,4 @@
-use Rattle.std.proofs.Common.{arith, refl}
+use Rattle.std.proofs.Common.{arith}
 use Rattle.std.proofs.lemmas.Result.{err_from_is_err_and}
 use Rattle.rows.specs.declared.Event.TheVariants.{Opening}
 use Rattle.files.proofs.Puts.{sizes, sized, judged_as, whole_as}
