@@ -10,6 +10,7 @@ pub mod Held
 pub mod HostWrites
 pub mod OneCall
 pub mod Puts
+pub mod Longest
 pub mod Records
 pub mod RecordsWorked
 pub mod Same

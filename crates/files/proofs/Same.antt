@@ -1,5 +1,6 @@
 -- Any two results that a contract of `files` allows are the same: a law for each form that is not already in the Same.antt of `text`
--- (`same`: `read_at`, `found_at`, `left`, `count_records`; `put_same`: the functions that put text or bytes).
+-- (`same`: `read_at`, `found_at`, `left`, `count_records`; `wrote_same`: the functions that put text; `put_same`: those that put
+-- bytes).
 -- Assumes nothing.
 use Rattle.std.proofs.Common.{◌≡◌, ℕ, Result, Bool, true, false, List, sym, refl, ap, ◌∙◌, Bor}
 use Rattle.text.proofs.Same.{same}

@@ -1,9 +1,11 @@
 -- The loops over the records of a file: what they keep, and what one turn does to it.
 -- Assumes nothing.
-use Rattle.std.proofs.Common.{◌≡◌, ℕ, zero, suc, ◌+◌, ◌-◌, ◌*◌, ◌<◌, ◌≤◌, Bool, true, false, ◌||◌, ltb, List, [], ◌∷◌, ◌++◌, length, get_or, set, replicate, sym, refl, ap, ◌∙◌, subst, append_assoc, append-nil, arith}
-use Rattle.text.specs.Text.{Put, ascii}
+use Rattle.std.proofs.Common.{◌≡◌, ℕ, zero, suc, ◌+◌, ◌-◌, ◌<◌, ◌≤◌, Bool, true, false, ◌||◌, ltb, List, [], ◌∷◌, ◌++◌, length, get_or, set, replicate, sym, refl, ap, ◌∙◌, subst, append_assoc, append-nil, arith}
+use Rattle.text.specs.Page.{Wrote}
+use Rattle.text.specs.Text.{ascii}
+use Rattle.text.specs.declared.page.Page.{Page}
 use Rattle.text.proofs.Cases.{yes_lt, no_lt, both_lt}
-use Rattle.text.proofs.Laws.{put_none, put_after, put_as}
+use Rattle.text.proofs.Writes.{wrote_none, wrote_after, wrote_as}
 use Rattle.rows.proofs.Truth.{or_assoc}
 use Rattle.rows.specs.Perform.{refused_of}
 use Rattle.rows.specs.Step.{step_of, unopened_call}
@@ -13,8 +15,8 @@ use Rattle.rows.specs.declared.Call.{Call}
 use Rattle.rows.specs.declared.Event.{Event}
 use Rattle.rows.specs.declared.Outcome.{Outcome}
 use Rattle.files.specs.Bodies.{event_at, body_at, read_by, read_at}
-use Rattle.files.specs.Dump.{place_text, places_text, dump_of, longest_place}
-use Rattle.files.specs.Lines.{numbered_line, record_text, longest_record}
+use Rattle.files.specs.Dump.{place_text, places_text, dump_of}
+use Rattle.files.specs.Lines.{numbered_line, record_text}
 use Rattle.files.specs.Listing.{slot_found, slot_framed, after_frame, names_slot, names_framed, answer_of, row_by, index_of, rest_of, records_of, listing_by, names_in, names_slots, listing_of}
 use Rattle.files.specs.Places.{place_after, places_from, places_of, GoesOn}
 use Rattle.files.specs.declared.places.Records.{Records}
@@ -77,34 +79,31 @@ module _ (s : List ℕ) (at next : ℕ) (f : Reading) (h : at < length s) (g : f
 
 -- ---- a loop that puts a text: `text` has been put, and `rest` of the places that are left is what is left of `whole`
 
-pub record So (s out₀ : List ℕ) (to₀ : ℕ) (whole : List ℕ) (most : ℕ) (rest : List ℕ → List ℕ) (out : List ℕ) (to at n : ℕ) : Type 0 where
+pub record So (s : List ℕ) (page₀ : Page) (whole : List ℕ) (rest : List ℕ → List ℕ) (page : Page) (at n : ℕ) : Type 0 where
   pub text : List ℕ
   pub turns : ℕ
-  pub put : Put out₀ to₀ text out to
+  pub wrote : Wrote text page₀ page
   pub left : text ++ rest (places_from turns s at) ≡ whole
   pub stands : Stands s at n turns
-  pub bound : to ≤ to₀ + most * n
 
-so_start : (s out₀ : List ℕ) (to₀ most : ℕ) (rest : List ℕ → List ℕ) → So s out₀ to₀ (rest (places_of s)) most rest out₀ to₀ 0 0
+so_start : (s : List ℕ) (page₀ : Page) (rest : List ℕ → List ℕ) → So s page₀ (rest (places_of s)) rest page₀ 0 0
 unfolding places_of
-so_start s out₀ to₀ most rest =
-    record { text = []; turns = length s; put = put_none out₀ to₀; left = refl; stands = first s; bound = omega arith }
+so_start s page₀ rest = record { text = []; turns = length s; wrote = wrote_none page₀; left = refl; stands = first s }
 
 -- one turn puts a piece more
 module _ (s : List ℕ) (at next : ℕ) (f : Reading) (h : at < length s) (g : f ≡ read_at s at) (e : next ≡ place_after f (length s)) where
-  so_step : (out₀ whole piece out out' : List ℕ) (to₀ most to to' n : ℕ) (rest rest' : List ℕ → List ℕ) (i : So s out₀ to₀ whole most rest out to at n)
-      → Put out to piece out' to' → to' ≤ to + most → ((ps : List ℕ) → piece ++ rest' ps ≡ rest (at ∷ ps)) → (k : ℕ) → i.turns ≡ suc k
-      → So s out₀ to₀ whole most rest' out' to' next (n + 1)
-  so_step out₀ whole piece out out' to₀ most to to' n rest rest' i p m r k t =
+  so_step : (page₀ page page' : Page) (whole piece : List ℕ) (n : ℕ) (rest rest' : List ℕ → List ℕ) (i : So s page₀ whole rest page at n)
+      → Wrote piece page page' → ((ps : List ℕ) → piece ++ rest' ps ≡ rest (at ∷ ps)) → (k : ℕ) → i.turns ≡ suc k
+      → So s page₀ whole rest' page' next (n + 1)
+  so_step page₀ page page' whole piece n rest rest' i p r k t =
       let l : i.text ++ (piece ++ rest' (places_from k s next)) ≡ whole =
       ap (λ (x : List ℕ). i.text ++ x) (r (places_from k s next) ∙ ap rest (one_less s at next f h g e k) ∙ ap (λ (x : ℕ). rest (places_from x s at)) (sym t)) ∙ i.left in
       record {
         text = i.text ++ piece;
         turns = k;
-        put = put_after p i.put;
+        wrote = wrote_after p i.wrote;
         left = rw append_assoc l;
         stands = steps s at next f h g e n k (rw t at i.stands);
-        bound = omega (arith, m, i.bound);
       }
 
 -- within the file there is a turn to come
@@ -113,51 +112,51 @@ one_comes s at n zero h i = absurd (omega (arith, i.enough))
 one_comes s at n (suc j) h i = (j, refl)
 
 -- after the last turn
-so_done : (s out₀ whole out : List ℕ) (to₀ most to at n : ℕ) (rest : List ℕ → List ℕ) (i : So s out₀ to₀ whole most rest out to at n) → length s ≤ at → i.text ++ rest [] ≡ whole
-so_done s out₀ whole out to₀ most to at n rest i h = ap (λ (ps : List ℕ). i.text ++ rest ps) (places_done i.turns s at h) ∙ i.left
+so_done : (s : List ℕ) (page₀ page : Page) (whole : List ℕ) (at n : ℕ) (rest : List ℕ → List ℕ) (i : So s page₀ whole rest page at n) → length s ≤ at → i.text ++ rest [] ≡ whole
+so_done s page₀ page whole at n rest i h = ap (λ (ps : List ℕ). i.text ++ rest ps) (places_done i.turns s at h) ∙ i.left
 
 -- ---- the listing
 
 -- the row that the records before reached is held (Held.antt), and whether one of them named a slot is remembered
-pub record Listed (s : List ℕ) (shown : Bool) (out₀ : List ℕ) (to₀ : ℕ) (out : List ℕ) (to at n : ℕ) (named : Bool) (row : List Call) (held : ℕ) (call : Call) : Type 0 where
+pub record Listed (s : List ℕ) (shown : Bool) (page₀ page : Page) (at n : ℕ) (named : Bool) (row : List Call) (held : ℕ) (call : Call) : Type 0 where
   pub reached : List Call
   pub holds : Holds reached row held call
-  pub so : So s out₀ to₀ (records_of s shown) longest_record (rest_of s shown n reached) out to at n
+  pub so : So s page₀ (records_of s shown) (rest_of s shown n reached) page at n
   pub names : (named || names_in s (places_from so.turns s at)) ≡ names_slots s
 
-listed_start : (s : List ℕ) (shown : Bool) (out₀ : List ℕ) (to₀ : ℕ) (c : Call) → c ≡ unopened_call → Listed s shown out₀ to₀ out₀ to₀ 0 0 false (replicate 65 c) 0 c
+listed_start : (s : List ℕ) (shown : Bool) (page₀ : Page) (c : Call) → c ≡ unopened_call → Listed s shown page₀ page₀ 0 0 false (replicate 65 c) 0 c
 unfolding records_of names_slots empty_row places_of so_start
-listed_start s shown out₀ to₀ c e =
+listed_start s shown page₀ c e =
     record {
       reached = empty_row;
       holds = record { slots = refl; kept = ap (λ (x : Call). set (replicate 65 x) 0 x) e; there = omega arith };
-      so = so_start s out₀ to₀ longest_record (rest_of s shown 0 empty_row);
+      so = so_start s page₀ (rest_of s shown 0 empty_row);
       names = refl;
     }
 
 -- the place of the row that is looked for is held already, or the call of another place is taken up
-pub record Found (s : List ℕ) (shown : Bool) (out₀ : List ℕ) (to₀ : ℕ) (out : List ℕ) (to at n : ℕ) (named : Bool) (index : ℕ) (row : List Call) (held : ℕ) (call : Call) : Type 0 where
-  pub listed : Listed s shown out₀ to₀ out to at n named row held call
+pub record Found (s : List ℕ) (shown : Bool) (page₀ page : Page) (at n : ℕ) (named : Bool) (index : ℕ) (row : List Call) (held : ℕ) (call : Call) : Type 0 where
+  pub listed : Listed s shown page₀ page at n named row held call
   pub index_held : held ≡ index
 
-module _ {s : List ℕ} {shown : Bool} {out₀ out : List ℕ} {to₀ to at n : ℕ} {named : Bool} {row : List Call} {held : ℕ} {call : Call}
-    (l : Listed s shown out₀ to₀ out to at n named row held call) (index : ℕ) (row' : List Call) (held' : ℕ) (call' : Call) where
-  pub found_here : index ≡ held → call' ≡ call → row' ≡ row → held' ≡ held → Found s shown out₀ to₀ out to at n named index row' held' call'
+module _ {s : List ℕ} {shown : Bool} {page₀ page : Page} {at n : ℕ} {named : Bool} {row : List Call} {held : ℕ} {call : Call}
+    (l : Listed s shown page₀ page at n named row held call) (index : ℕ) (row' : List Call) (held' : ℕ) (call' : Call) where
+  pub found_here : index ≡ held → call' ≡ call → row' ≡ row → held' ≡ held → Found s shown page₀ page at n named index row' held' call'
   found_here e f g h = rw (f, g, h) (record { listed = l; index_held = sym e })
 
   pub found_there : (d : Call) → index < 65 → call' ≡ get_or (set row held call) index d → row' ≡ set row held call → held' ≡ index
-      → Found s shown out₀ to₀ out to at n named index row' held' call'
+      → Found s shown page₀ page at n named index row' held' call'
   found_there d h e f g =
       rw (e, f, g) (record { listed = record { reached = l.reached; holds = holds_other l.holds index d h; so = l.so; names = l.names }; index_held = refl })
 
-listed_on : (s : List ℕ) (shown : Bool) (out₀ out out' : List ℕ) (to₀ to to' at next n slot index : ℕ) (named named' b names : Bool) (row : List Call) (held : ℕ) (call : Call) (f : Reading) (o : Outcome)
-    → Found s shown out₀ to₀ out to at n named index row held call → at < length s
+listed_on : (s : List ℕ) (shown : Bool) (page₀ page page' : Page) (at next n slot index : ℕ) (named named' b names : Bool) (row : List Call) (held : ℕ) (call : Call) (f : Reading) (o : Outcome)
+    → Found s shown page₀ page at n named index row held call → at < length s
     → f ≡ read_at s at → slot ≡ slot_found f → index ≡ index_of slot → b ≡ ltb index 64 → o ≡ answer_of f b call
     → names ≡ names_slot f → named' ≡ (named || names)
-    → Put out to (record_text (n + 1) shown slot o) out' to' → to' ≤ to + longest_record → next ≡ place_after f (length s)
-    → Listed s shown out₀ to₀ out' to' next (n + 1) named' row held o.call
+    → Wrote (record_text (n + 1) shown slot o) page page' → next ≡ place_after f (length s)
+    → Listed s shown page₀ page' next (n + 1) named' row held o.call
 unfolding rest_of names_in so_step
-listed_on s shown out₀ out out' to₀ to to' at next n slot index named named' b names row held call f o i h g u v t d w x p m e =
+listed_on s shown page₀ page page' at next n slot index named named' b names row held call f o i h g u v t d w x p e =
     let l = i.listed in
     let k = answered l.holds f b o (i.index_held ∙ v ∙ ap index_of u) (t ∙ ap (λ (j : ℕ). ltb j 64) (sym i.index_held)) d in
     let q : (ps : List ℕ) → record_text (n + 1) shown slot o ++ rest_of s shown (n + 1) (row_by f l.reached) ps ≡ rest_of s shown n l.reached (at ∷ ps) =
@@ -166,7 +165,7 @@ listed_on s shown out₀ out out' to₀ to to' at next n slot index named named'
     record {
       reached = row_by f l.reached;
       holds = k.1;
-      so = so_step s at next f h g e out₀ (records_of s shown) (record_text (n + 1) shown slot o) out out' to₀ longest_record to to' n (rest_of s shown n l.reached) (rest_of s shown (n + 1) (row_by f l.reached)) l.so p m q c.0 c.1;
+      so = so_step s at next f h g e page₀ page page' (records_of s shown) (record_text (n + 1) shown slot o) n (rest_of s shown n l.reached) (rest_of s shown (n + 1) (row_by f l.reached)) l.so p q c.0 c.1;
       names =
           ap (λ (b : Bool). b || names_in s (places_from c.0 s next)) (x ∙ ap (λ (b : Bool). named || b) (w ∙ ap names_slot g))
           ∙ or_assoc named (names_slot (read_at s at)) (names_in s (places_from c.0 s next))
@@ -231,89 +230,85 @@ module _ (s : List ℕ) (before after : Records) (at : ℕ) (f : Framing) (q : b
 
 -- ---- the listing, turn by turn
 
-pub listed_begin : (file : Bor (List ℕ)) (of it : Records) (shown : Bool) (out₀ : List ℕ) (to₀ : ℕ) (c : Call) → c ≡ unopened_call → (of.file ≡ file) × (of.at ≡ 0) → it ≡ of
-    → (it.file.now ≡ file.now) × Listed file.now shown out₀ to₀ out₀ to₀ it.at 0 false (replicate 65 c) 0 c
-listed_begin file of it shown out₀ to₀ c u e f =
+pub listed_begin : (file : Bor (List ℕ)) (of it : Records) (shown : Bool) (page₀ : Page) (c : Call) → c ≡ unopened_call → (of.file ≡ file) × (of.at ≡ 0) → it ≡ of
+    → (it.file.now ≡ file.now) × Listed file.now shown page₀ page₀ it.at 0 false (replicate 65 c) 0 c
+listed_begin file of it shown page₀ c u e f =
     let b = begun file of it e f in
-    (b.0, rw b.1 (listed_start file.now shown out₀ to₀ c u))
+    (b.0, rw b.1 (listed_start file.now shown page₀ c u))
 
 module _ (s : List ℕ) (before after : Records) (at : ℕ) (f : Framing) (q : before.file.now ≡ s) (g : GoesOn before (Some (at, f)) after) where
-  pub listed_turn : (shown : Bool) (out₀ out out' : List ℕ) (to₀ to to' n slot index : ℕ) (named named' b names : Bool) (row : List Call) (held : ℕ) (call : Call) (o : Outcome)
-      → Found s shown out₀ to₀ out to before.at n named index row held call
+  pub listed_turn : (shown : Bool) (page₀ page page' : Page) (n slot index : ℕ) (named named' b names : Bool) (row : List Call) (held : ℕ) (call : Call) (o : Outcome)
+      → Found s shown page₀ page before.at n named index row held call
       → slot ≡ slot_framed f → index ≡ index_of slot → b ≡ ltb index 64 → o ≡ answer_of (Some (read_by s at f)) b call
       → names ≡ names_framed f → named' ≡ (named || names)
-      → Put out to (record_text (n + 1) shown slot o) out' to' → to' ≤ to + longest_record
-      → (after.file.now ≡ s) × Listed s shown out₀ to₀ out' to' after.at (n + 1) named' row held o.call
-  listed_turn shown out₀ out out' to₀ to to' n slot index named named' b names row held call o i u v t d w x p m =
+      → Wrote (record_text (n + 1) shown slot o) page page'
+      → (after.file.now ≡ s) × Listed s shown page₀ page' after.at (n + 1) named' row held o.call
+  listed_turn shown page₀ page page' n slot index named named' b names row held call o i u v t d w x p =
       let h = turn_within s before after at f q g in
       let k : Some (read_by s at f) ≡ read_at s at = read_as s at f (Some (read_by s at f)) h (turn_frame s before after at f q g) refl in
-      let j : Found s shown out₀ to₀ out to at n named index row held call = rw g.1 i in (
+      let j : Found s shown page₀ page at n named index row held call = rw g.1 i in (
         turn_file s before after at f q g,
-        listed_on s shown out₀ out out' to₀ to to' at after.at n slot index named named' b names row held call (Some (read_by s at f)) o j h
-            k (u ∙ slot_by s at f) v t d (w ∙ names_by s at f) x p m
+        listed_on s shown page₀ page page' at after.at n slot index named named' b names row held call (Some (read_by s at f)) o j h
+            k (u ∙ slot_by s at f) v t d (w ∙ names_by s at f) x p
             (turn_next s before after at f q g ∙ ap (λ (y : Reading). place_after y (length s)) (sym k)),
       )
 
-pub listed_done : (s old out₀ out out' : List ℕ) (shown : Bool) (to₀ to at n r : ℕ) (named : Bool) (row : List Call) (held : ℕ) (call : Call) → Listed s shown out₀ to₀ out to at n named row held call
-    → length s ≤ at → Put old 0 (ascii "REV 1\n") out₀ to₀ → Put out to (numbered_line (ascii "END ") n) out' r → Put old 0 (listing_by shown s) out' r
+pub listed_done : (s : List ℕ) (old page₀ page page' : Page) (shown : Bool) (at n : ℕ) (named : Bool) (row : List Call) (held : ℕ) (call : Call) → Listed s shown page₀ page at n named row held call
+    → length s ≤ at → Wrote (ascii "REV 1\n") old page₀ → Wrote (numbered_line (ascii "END ") n) page page' → Wrote (listing_by shown s) old page'
 unfolding listing_by rest_of
-listed_done s old out₀ out out' shown to₀ to at n r named row held call i h p l =
-    put_after (put_as (so_done s out₀ (records_of s shown) out to₀ longest_record to at n (rest_of s shown n i.reached) i.so h) (put_after l i.so.put)) p
+listed_done s old page₀ page page' shown at n named row held call i h p l =
+    wrote_after (wrote_as (so_done s page₀ page (records_of s shown) at n (rest_of s shown n i.reached) i.so h) (wrote_after l i.so.wrote)) p
 
-pub listed_names : (s out₀ out : List ℕ) (shown : Bool) (to₀ to at n : ℕ) (named : Bool) (row : List Call) (held : ℕ) (call : Call) → Listed s shown out₀ to₀ out to at n named row held call
+pub listed_names : (s : List ℕ) (page₀ page : Page) (shown : Bool) (at n : ℕ) (named : Bool) (row : List Call) (held : ℕ) (call : Call) → Listed s shown page₀ page at n named row held call
     → length s ≤ at → named ≡ names_slots s
 unfolding names_in
-listed_names s out₀ out shown to₀ to at n named row held call i h =
+listed_names s page₀ page shown at n named row held call i h =
     sym (or_false named) ∙ ap (λ (ps : List ℕ). named || names_in s ps) (places_done i.so.turns s at h) ∙ i.names
 
 -- with slots if a record names one
-pub listed_length : (s : List ℕ) (shown : Bool) (n : ℕ) → shown ≡ names_slots s → n ≡ 0 + length (listing_by shown s) → n ≡ length (listing_of s)
+pub listed_as : (s : List ℕ) (a b : Page) (shown : Bool) → shown ≡ names_slots s → Wrote (listing_by shown s) a b → Wrote (listing_of s) a b
 unfolding listing_of
-listed_length s shown n e h = h ∙ omega (arith, ap (λ (b : Bool). length (listing_by b s)) e)
-
-pub listed_as : (s a c : List ℕ) (shown : Bool) (i j : ℕ) → shown ≡ names_slots s → Put a i (listing_by shown s) c j → Put a i (listing_of s) c j
-unfolding listing_of
-listed_as s a c shown i j e p = put_as (ap (λ (b : Bool). listing_by b s) e) p
+listed_as s a b shown e p = wrote_as (ap (λ (x : Bool). listing_by x s) e) p
 
 -- ---- the dump
 
-abbrev pub Dumped : List ℕ → List ℕ → ℕ → List ℕ → ℕ → ℕ → ℕ → Type 0
-Dumped s out₀ to₀ out to at n = So s out₀ to₀ (places_text s 0 (places_of s)) longest_place (places_text s n) out to at n
+abbrev pub Dumped : List ℕ → Page → Page → ℕ → ℕ → Type 0
+Dumped s page₀ page at n = So s page₀ (places_text s 0 (places_of s)) (places_text s n) page at n
 
-dumped_start : (s out₀ : List ℕ) (to₀ : ℕ) → Dumped s out₀ to₀ out₀ to₀ 0 0
-dumped_start s out₀ to₀ = so_start s out₀ to₀ longest_place (places_text s 0)
+dumped_start : (s : List ℕ) (page₀ : Page) → Dumped s page₀ page₀ 0 0
+dumped_start s page₀ = so_start s page₀ (places_text s 0)
 
-dumped_on : (s out₀ out out' : List ℕ) (to₀ to to' at next n : ℕ) (f : Reading) → Dumped s out₀ to₀ out to at n → at < length s
-    → f ≡ read_at s at → Put out to (place_text (n + 1) f at) out' to' → to' ≤ to + longest_place → next ≡ place_after f (length s)
-    → Dumped s out₀ to₀ out' to' next (n + 1)
+dumped_on : (s : List ℕ) (page₀ page page' : Page) (at next n : ℕ) (f : Reading) → Dumped s page₀ page at n → at < length s
+    → f ≡ read_at s at → Wrote (place_text (n + 1) f at) page page' → next ≡ place_after f (length s)
+    → Dumped s page₀ page' next (n + 1)
 unfolding places_text
-dumped_on s out₀ out out' to₀ to to' at next n f i h g p m e =
+dumped_on s page₀ page page' at next n f i h g p e =
     let c = one_comes s at n i.turns h i.stands in
-    so_step s at next f h g e out₀ (places_text s 0 (places_of s)) (place_text (n + 1) f at) out out' to₀ longest_place to to' n (places_text s n) (places_text s (n + 1)) i p m (λ ps. rw g) c.0 c.1
+    so_step s at next f h g e page₀ page page' (places_text s 0 (places_of s)) (place_text (n + 1) f at) n (places_text s n) (places_text s (n + 1)) i p (λ ps. rw g) c.0 c.1
 
-pub dumped_begin : (file : Bor (List ℕ)) (of it : Records) (out₀ : List ℕ) (to₀ : ℕ) → (of.file ≡ file) × (of.at ≡ 0) → it ≡ of
-    → (it.file.now ≡ file.now) × Dumped file.now out₀ to₀ out₀ to₀ it.at 0
-dumped_begin file of it out₀ to₀ e f =
+pub dumped_begin : (file : Bor (List ℕ)) (of it : Records) (page₀ : Page) → (of.file ≡ file) × (of.at ≡ 0) → it ≡ of
+    → (it.file.now ≡ file.now) × Dumped file.now page₀ page₀ it.at 0
+dumped_begin file of it page₀ e f =
     let b = begun file of it e f in
-    (b.0, rw b.1 (dumped_start file.now out₀ to₀))
+    (b.0, rw b.1 (dumped_start file.now page₀))
 
-pub dumped_turn : (s out₀ out out' : List ℕ) (to₀ to to' n : ℕ) (before after : Records) (at : ℕ) (f : Framing) (r : OkOrErr Record Unreadable)
-    → (before.file.now ≡ s) × Dumped s out₀ to₀ out to before.at n → GoesOn before (Some (at, f)) after → r ≡ read_by s at f
-    → Put out to (place_text (n + 1) (Some r) at) out' to' → to' ≤ to + longest_place
-    → (after.file.now ≡ s) × Dumped s out₀ to₀ out' to' after.at (n + 1)
-dumped_turn s out₀ out out' to₀ to to' n before after at f r i g e p m =
+pub dumped_turn : (s : List ℕ) (page₀ page page' : Page) (n : ℕ) (before after : Records) (at : ℕ) (f : Framing) (r : OkOrErr Record Unreadable)
+    → (before.file.now ≡ s) × Dumped s page₀ page before.at n → GoesOn before (Some (at, f)) after → r ≡ read_by s at f
+    → Wrote (place_text (n + 1) (Some r) at) page page'
+    → (after.file.now ≡ s) × Dumped s page₀ page' after.at (n + 1)
+dumped_turn s page₀ page page' n before after at f r i g e p =
     let h = turn_within s before after at f i.0 g in
-    let d : Dumped s out₀ to₀ out to at n = rw g.1 i.1 in
+    let d : Dumped s page₀ page at n = rw g.1 i.1 in
     let k : Some r ≡ read_at s at = read_as s at f (Some r) h (turn_frame s before after at f i.0 g) (ap (λ (x : OkOrErr Record Unreadable). Some x) e) in (
       turn_file s before after at f i.0 g,
-      dumped_on s out₀ out out' to₀ to to' at after.at n (Some r) d h k p m (turn_next s before after at f i.0 g ∙ ap (λ (x : Reading). place_after x (length s)) (sym k)),
+      dumped_on s page₀ page page' at after.at n (Some r) d h k p (turn_next s before after at f i.0 g ∙ ap (λ (x : Reading). place_after x (length s)) (sym k)),
     )
 
-pub dumped_done : (s old out₀ out : List ℕ) (to₀ to at n k : ℕ) → Dumped s out₀ to₀ out to at n → length s ≤ at → k ≡ length (places_of s) → Put old 0 (numbered_line (ascii "RECORDS ") k) out₀ to₀
-    → Put old 0 (dump_of s) out to
+pub dumped_done : (s : List ℕ) (old page₀ page : Page) (at n k : ℕ) → Dumped s page₀ page at n → length s ≤ at → k ≡ length (places_of s) → Wrote (numbered_line (ascii "RECORDS ") k) old page₀
+    → Wrote (dump_of s) old page
 unfolding dump_of places_text
-dumped_done s old out₀ out to₀ to at n k i h e p =
-    put_after (put_as (sym (append-nil i.text) ∙ so_done s out₀ (places_text s 0 (places_of s)) out to₀ longest_place to at n (places_text s n) i h) i.put) (rw e at p)
+dumped_done s old page₀ page at n k i h e p =
+    wrote_after (wrote_as (sym (append-nil i.text) ∙ so_done s page₀ page (places_text s 0 (places_of s)) at n (places_text s n) i h) i.wrote) (rw e at p)
 
 -- ---- the count of records
 

@@ -1,7 +1,7 @@
 // A dump of a file, for a volunteer who wants to see what the board wrote: each record's ordinal, its place, and what it says.
-ghost use Rattle.std.specs.Prelude.{◌≡◌, ◌+◌, ◌^◌, ◌<◌, ◌≤◌, length, Some};
-ghost use Rattle.text.specs.Text.{Put};
-ghost use Rattle.files.specs.Dump.{stop_text, found_text, place_text, longest_place, dump_of};
+ghost use Rattle.std.specs.Prelude.{◌≡◌, ◌≤◌, length, Some};
+ghost use Rattle.text.specs.Page.{Wrote};
+ghost use Rattle.files.specs.Dump.{stop_text, found_text, place_text, dump_of};
 ghost use Rattle.files.specs.Fit.{longest, answers, leaves};
 
 use crate::bodies::read_by;
@@ -10,61 +10,49 @@ use crate::lines::put_numbered_line;
 use crate::places::{Records, count_records};
 use crate::words::put_entry;
 use crate::{Record, Unreadable};
+use text::Page;
 
-fn put_stop(out: &mut [u8], at: usize, stop: Unreadable) -> usize
-    requires { at < 2 ^ 60 }
-    ensures put { Put out.old at (stop_text stop) out.new result }
-    ensures upper_bound { result ≤ at + 13 }
+fn put_stop(page: &mut Page<'_>, stop: Unreadable)
+    ensures { Wrote (stop_text stop) page.old page.new }
 {
     match stop {
-        Unreadable::CutShort => text::put_word(out, at, b" CUT-SHORT"),
-        Unreadable::BadLength => text::put_word(out, at, b" BAD-LENGTH"),
-        Unreadable::UnknownKind => text::put_word(out, at, b" UNKNOWN-KIND"),
+        Unreadable::CutShort => page.word(b" CUT-SHORT"),
+        Unreadable::BadLength => page.word(b" BAD-LENGTH"),
+        Unreadable::UnknownKind => page.word(b" UNKNOWN-KIND"),
     }
 }
 
 // What a record says, or why it cannot be read.
-fn put_found(out: &mut [u8], at: usize, found: Result<Record, Unreadable>) -> usize
-    requires { at < 2 ^ 57 }
-    ensures put { Put out.old at (found_text (Some found)) out.new result }
-    ensures upper_bound { result ≤ at + 674 }
+fn put_found(page: &mut Page<'_>, found: Result<Record, Unreadable>)
+    ensures { Wrote (found_text (Some found)) page.old page.new }
 {
     match found {
-        Err(stop) => put_stop(out, at, stop),
-        Ok(record) => put_entry(out, at, record.acts, record.event),
+        Err(stop) => put_stop(page, stop),
+        Ok(record) => put_entry(page, record.acts, record.event),
     }
 }
 
 // A record's line.
-fn put_place(
-    out: &mut [u8],
-    to: usize,
-    ordinal: u32,
-    found: Result<Record, Unreadable>,
-    at: u32,
-) -> usize
-    requires { to < 2 ^ 56 }
-    ensures put { Put out.old to (place_text ordinal (Some found) at) out.new result }
-    ensures upper_bound { result ≤ to + longest_place }
+fn put_place(page: &mut Page<'_>, ordinal: u32, found: Result<Record, Unreadable>, at: u32)
+    ensures { Wrote (place_text ordinal (Some found) at) page.old page.new }
 {
-    let mut end = text::put_dec(out, to, ordinal);
-    end = text::put_numbered(out, end, b" ", at);
-    end = put_found(out, end, found);
-    text::put(out, end, b'\n')
+    page.decimal(ordinal);
+    page.numbered(b" ", at);
+    put_found(page, found);
+    page.put(b'\n');
 }
 
-// The whole dump as far as the buffer goes, and its length.
-fn write(file: &[u8], out: &mut [u8]) -> usize
+// The whole dump.
+fn write(page: &mut Page<'_>, file: &[u8])
     requires { length file.now ≤ longest }
-    ensures { Put out.old 0 (dump_of file.now) out.new result }
+    ensures { Wrote (dump_of file.now) page.old page.new }
 {
-    let mut to = put_numbered_line(out, 0, b"RECORDS ", count_records(file) as u32);
+    put_numbered_line(page, b"RECORDS ", count_records(file) as u32);
     let mut count = 0;
     for (at, f) in Records::of(file) {
         count += 1;
-        to = put_place(out, to, count, read_by(file, at, f), at as u32);
+        put_place(page, count, read_by(file, at, f), at as u32);
     }
-    to
 }
 
 // The dump of a file in a buffer of any size: its length; or 8, and the buffer as it was.
@@ -76,9 +64,13 @@ pub fn rev_dump(file: &[u8], out: &mut [u8]) -> usize
         return TOO_LONG;
     }
     // measured first: nothing is stored in a buffer of no bytes
-    let n = write(file, &mut out[..0]);
+    let mut nothing = Page::new(&mut out[..0]);
+    write(&mut nothing, file);
+    let n = nothing.at;
     if out.len() < n {
         return TOO_LONG;
     }
-    write(file, out)
+    let mut page = Page::new(out);
+    write(&mut page, file);
+    page.at
 }

@@ -1,165 +1,126 @@
 // The lines of a listing: a record's, an action's, the last.
-// Kept: each text is put by a function and no type has a Display, which could not promise `Put`: the text in a lent buffer as far as it goes,
-// and the place after all of it. So it is in messages.rt and words.rt too.
-ghost use Rattle.std.specs.Prelude.{◌+◌, ◌^◌, ◌<◌, ◌≤◌, length};
-ghost use Rattle.text.specs.Text.{Put};
+// Kept: each text is put by a function and no type has a Display, which could not promise `Wrote`: the text in a lent buffer as far as it
+// goes, and the place after all of it. So it is in messages.rt and words.rt too.
+ghost use Rattle.text.specs.Page.{Wrote};
 ghost use Rattle.files.specs.Lines.{phase_text, rev_text, stand_text, meters_text, slot_text, line_text, numbered_line, action_text, actions_text};
-ghost use Rattle.files.specs.Lines.{record_text, longest_record};
+ghost use Rattle.files.specs.Lines.{record_text};
 
 use crate::messages::{put_released, put_sent};
 use meters::Meters;
 use rows::{APPLIED, Act, Call, Note, Outcome, Phase, RevState, Stand};
+use text::Page;
 
 // Kept: an arm for each word, here and in put_rev: its length is known where it is put, which takes 29 instructions less than one call for a
 // word that a function gives. Each line has two of them: they are 6 % of a listing of expiries.
-fn put_phase(out: &mut [u8], at: usize, phase: Phase) -> usize
-    requires { at < 2 ^ 60 }
-    ensures put { Put out.old at (phase_text phase) out.new result }
-    ensures upper_bound { result ≤ at + 9 }
+fn put_phase(page: &mut Page<'_>, phase: Phase)
+    ensures { Wrote (phase_text phase) page.old page.new }
 {
     match phase {
-        Phase::Unopened => text::put_word(out, at, b" NONE"),
-        Phase::Null => text::put_word(out, at, b" NULL"),
-        Phase::Setup => text::put_word(out, at, b" SETUP"),
-        Phase::Answered => text::put_word(out, at, b" ANSWERED"),
-        Phase::Cleared => text::put_word(out, at, b" CLEARED"),
+        Phase::Unopened => page.word(b" NONE"),
+        Phase::Null => page.word(b" NULL"),
+        Phase::Setup => page.word(b" SETUP"),
+        Phase::Answered => page.word(b" ANSWERED"),
+        Phase::Cleared => page.word(b" CLEARED"),
     }
 }
 
-fn put_rev(out: &mut [u8], at: usize, rev: RevState) -> usize
-    requires { at < 2 ^ 60 }
-    ensures put { Put out.old at (rev_text rev) out.new result }
-    ensures upper_bound { result ≤ at + 17 }
+fn put_rev(page: &mut Page<'_>, rev: RevState)
+    ensures { Wrote (rev_text rev) page.old page.new }
 {
     match rev {
-        RevState::Idle => text::put_word(out, at, b" IDLE"),
-        RevState::WaitSetup => text::put_word(out, at, b" WAIT-SETUP"),
-        RevState::WaitActive => text::put_word(out, at, b" WAIT-ACTIVE"),
-        RevState::WaitAnswer => text::put_word(out, at, b" WAIT-ANSWER"),
-        RevState::Active => text::put_word(out, at, b" ACTIVE"),
-        RevState::WaitSetupConf => text::put_word(out, at, b" WAIT-SETUP-CONF"),
-        RevState::WaitActiveConf => text::put_word(out, at, b" WAIT-ACTIVE-CONF"),
-        RevState::WaitCalled => text::put_word(out, at, b" WAIT-CALLED"),
+        RevState::Idle => page.word(b" IDLE"),
+        RevState::WaitSetup => page.word(b" WAIT-SETUP"),
+        RevState::WaitActive => page.word(b" WAIT-ACTIVE"),
+        RevState::WaitAnswer => page.word(b" WAIT-ANSWER"),
+        RevState::Active => page.word(b" ACTIVE"),
+        RevState::WaitSetupConf => page.word(b" WAIT-SETUP-CONF"),
+        RevState::WaitActiveConf => page.word(b" WAIT-ACTIVE-CONF"),
+        RevState::WaitCalled => page.word(b" WAIT-CALLED"),
     }
 }
 
-fn put_stand(out: &mut [u8], at: usize, stand: Stand) -> usize
-    requires { at < 2 ^ 59 }
-    ensures put { Put out.old at (stand_text stand) out.new result }
-    ensures upper_bound { result ≤ at + 26 }
+fn put_stand(page: &mut Page<'_>, stand: Stand)
+    ensures { Wrote (stand_text stand) page.old page.new }
 {
-    let to = put_phase(out, at, stand.phase);
-    put_rev(out, to, stand.rev)
+    put_phase(page, stand.phase);
+    put_rev(page, stand.rev);
 }
 
-fn put_meters(out: &mut [u8], at: usize, m: Meters) -> usize
-    requires { at < 2 ^ 59 }
-    ensures put { Put out.old at (meters_text m) out.new result }
-    ensures upper_bound { result ≤ at + 33 }
+fn put_meters(page: &mut Page<'_>, m: Meters)
+    ensures { Wrote (meters_text m) page.old page.new }
 {
-    let mut to = text::put_numbered(out, at, b" ", m.caller);
-    to = text::put_numbered(out, to, b" ", m.called);
-    text::put_numbered(out, to, b" ", m.far)
+    page.numbered(b" ", m.caller);
+    page.numbered(b" ", m.called);
+    page.numbered(b" ", m.far);
 }
 
 // The slot, where slots are shown.
 // Kept: no Option of a slot, here and in put_line and put_record: whether slots are shown is one answer for a whole listing.
-fn put_slot(out: &mut [u8], at: usize, slots: bool, slot: u32) -> usize
-    requires { at < 2 ^ 59 }
-    ensures put { Put out.old at (slot_text slots slot) out.new result }
-    ensures upper_bound { result ≤ at + 11 }
+fn put_slot(page: &mut Page<'_>, slots: bool, slot: u32)
+    ensures { Wrote (slot_text slots slot) page.old page.new }
 {
     if slots {
-        text::put_numbered(out, at, b" ", slot)
-    } else {
-        at
+        page.numbered(b" ", slot);
     }
 }
 
 // A record's line: its ordinal, its slot, its number, and the call after it.
-fn put_line(
-    out: &mut [u8],
-    at: usize,
-    ordinal: u32,
-    slots: bool,
-    slot: u32,
-    number: u8,
-    call: Call,
-) -> usize
-    requires { at < 2 ^ 58 }
-    ensures put { Put out.old at (line_text ordinal slots slot number call) out.new result }
-    ensures upper_bound { result ≤ at + 92 }
+fn put_line(page: &mut Page<'_>, ordinal: u32, slots: bool, slot: u32, number: u8, call: Call)
+    ensures { Wrote (line_text ordinal slots slot number call) page.old page.new }
 {
-    let mut to = text::put_dec(out, at, ordinal);
-    to = put_slot(out, to, slots, slot);
-    to = text::put_numbered(out, to, b" ", number as u32);
-    to = put_stand(out, to, call.stand);
-    to = put_meters(out, to, call.meters);
-    text::put(out, to, b'\n')
+    page.decimal(ordinal);
+    put_slot(page, slots, slot);
+    page.numbered(b" ", number as u32);
+    put_stand(page, call.stand);
+    put_meters(page, call.meters);
+    page.put(b'\n');
 }
 
 // A word, a number, and the end of the line.
-pub(crate) fn put_numbered_line(out: &mut [u8], at: usize, word: &[u8], n: u32) -> usize
-    requires { at + length word.now < 2 ^ 61 }
-    ensures put { Put out.old at (numbered_line word.now n) out.new result }
-    ensures upper_bound { result ≤ at + length word.now + 11 }
+pub(crate) fn put_numbered_line(page: &mut Page<'_>, word: &[u8], n: u32)
+    ensures { Wrote (numbered_line word.now n) page.old page.new }
 {
-    let to = text::put_numbered(out, at, word, n);
-    text::put(out, to, b'\n')
+    page.numbered(word, n);
+    page.put(b'\n');
 }
 
 // An action's line, with what it carries; none for Nothing.
 // Kept: an arm for each line: some have a word alone, some a number behind it, some a message.
-fn put_action(out: &mut [u8], at: usize, a: Act, m: Note) -> usize
-    requires { at < 2 ^ 58 }
-    ensures put { Put out.old at (action_text m a) out.new result }
-    ensures upper_bound { result ≤ at + 621 }
+fn put_action(page: &mut Page<'_>, a: Act, m: Note)
+    ensures { Wrote (action_text m a) page.old page.new }
 {
     match a {
-        Act::Nothing => at,
-        Act::NotifyAccepted => text::put_word(out, at, b"> NOTIFY ACCEPTED\n"),
-        Act::AccessSetup => text::put_word(out, at, b"> ACCESS SETUP\n"),
-        Act::AccessAsk => text::put_word(out, at, b"> ACCESS ASK\n"),
-        Act::AccessError => put_numbered_line(out, at, b"> ACCESS ERROR ", m.error as u32),
-        Act::AccessRel => put_numbered_line(out, at, b"> ACCESS REL ", m.cause as u32),
-        Act::ChargeCalling => text::put_word(out, at, b"> CHARGE CALLING\n"),
-        Act::ChargeCalled => text::put_word(out, at, b"> CHARGE CALLED\n"),
-        Act::Stop => text::put_word(out, at, b"> STOP\n"),
-        Act::SendIam => put_sent(out, at, b"> IAM", m),
-        Act::SendAnm => put_sent(out, at, b"> ANM", m),
-        Act::SendRel => put_released(out, at, m),
-        Act::SendFac => put_sent(out, at, b"> FAC", m),
+        Act::Nothing => {}
+        Act::NotifyAccepted => page.word(b"> NOTIFY ACCEPTED\n"),
+        Act::AccessSetup => page.word(b"> ACCESS SETUP\n"),
+        Act::AccessAsk => page.word(b"> ACCESS ASK\n"),
+        Act::AccessError => put_numbered_line(page, b"> ACCESS ERROR ", m.error as u32),
+        Act::AccessRel => put_numbered_line(page, b"> ACCESS REL ", m.cause as u32),
+        Act::ChargeCalling => page.word(b"> CHARGE CALLING\n"),
+        Act::ChargeCalled => page.word(b"> CHARGE CALLED\n"),
+        Act::Stop => page.word(b"> STOP\n"),
+        Act::SendIam => put_sent(page, b"> IAM", m),
+        Act::SendAnm => put_sent(page, b"> ANM", m),
+        Act::SendRel => put_released(page, m),
+        Act::SendFac => put_sent(page, b"> FAC", m),
     }
 }
 
-fn put_actions(out: &mut [u8], at: usize, o: Outcome) -> usize
-    requires { at < 2 ^ 57 }
-    ensures put { Put out.old at (actions_text o) out.new result }
-    ensures upper_bound { result ≤ at + 2484 }
+fn put_actions(page: &mut Page<'_>, o: Outcome)
+    ensures { Wrote (actions_text o) page.old page.new }
 {
-    let mut to = put_action(out, at, o.first, o.note);
-    to = put_action(out, to, o.second, o.note);
-    to = put_action(out, to, o.third, o.note);
-    put_action(out, to, o.fourth, o.note)
+    put_action(page, o.first, o.note);
+    put_action(page, o.second, o.note);
+    put_action(page, o.third, o.note);
+    put_action(page, o.fourth, o.note);
 }
 
 // A record's line and, where a row was applied, its actions.
-pub(crate) fn put_record(
-    out: &mut [u8],
-    at: usize,
-    ordinal: u32,
-    slots: bool,
-    slot: u32,
-    o: Outcome,
-) -> usize
-    requires { at < 2 ^ 56 }
-    ensures put { Put out.old at (record_text ordinal slots slot o) out.new result }
-    ensures upper_bound { result ≤ at + longest_record }
+pub(crate) fn put_record(page: &mut Page<'_>, ordinal: u32, slots: bool, slot: u32, o: Outcome)
+    ensures { Wrote (record_text ordinal slots slot o) page.old page.new }
 {
-    let end = put_line(out, at, ordinal, slots, slot, o.number, o.call);
+    put_line(page, ordinal, slots, slot, o.number, o.call);
     if o.number == APPLIED {
-        put_actions(out, end, o)
-    } else {
-        end
+        put_actions(page, o);
     }
 }

@@ -1,6 +1,6 @@
 // The listing of a file: every record's line and actions, from a row of calls, of which each event steps one on.
 ghost use Rattle.std.specs.Prelude.{◌≡◌, ◌^◌, ◌<◌, ◌≤◌, length};
-ghost use Rattle.text.specs.Text.{Put};
+ghost use Rattle.text.specs.Page.{Wrote, moved};
 ghost use Rattle.std.specs.Prelude.{Some};
 ghost use Rattle.files.specs.Bodies.{read_by};
 ghost use Rattle.files.specs.Fit.{longest, answers, leaves};
@@ -14,8 +14,9 @@ use crate::places::Records;
 use crate::{Frame, Unreadable, Where};
 use board::{NO_SUCH_SLOT, SLOTS};
 use rows::{Call, Outcome};
+use text::Page;
 
-// A listing that was written as far as its buffer went: its length, and whether a record names a slot.
+// A listing that was measured: its length, and whether it shows slots.
 #[derive(Clone, Copy)]
 struct Listed {
     to: usize,
@@ -70,13 +71,13 @@ fn answer(file: &[u8], at: usize, f: Result<Frame, Unreadable>, there: bool, cal
     }
 }
 
-// The whole listing as far as the buffer goes, with slots or without: its length, and whether a record names a slot.
-fn write(file: &[u8], slots: bool, out: &mut [u8]) -> Listed
+// The whole listing, with slots or without: whether a record names a slot.
+fn write(page: &mut Page<'_>, file: &[u8], slots: bool) -> bool
     requires { length file.now ≤ longest }
-    ensures put { Put out.old 0 (listing_by slots file.now) out.new result.to }
-    ensures slots_value { result.slots ≡ names_slots file.now }
+    ensures put { Wrote (listing_by slots file.now) page.old page.new }
+    ensures value { result ≡ names_slots file.now }
 {
-    let mut to = text::put_word(out, 0, b"REV 1\n");
+    page.word(b"REV 1\n");
     let mut count = 0;
     let mut named = false;
     let mut call = Call::unopened();
@@ -95,25 +96,26 @@ fn write(file: &[u8], slots: bool, out: &mut [u8]) -> Listed
         let o = answer(file, at, f, index < SLOTS, call);
         count += 1;
         named |= acts.is_slot();
-        to = put_record(out, to, count, slots, u32::from(slot), o);
+        put_record(page, count, slots, u32::from(slot), o);
         call = o.call;
     }
-    to = put_numbered_line(out, to, b"END ", count);
-    Listed { to, slots: named }
+    put_numbered_line(page, b"END ", count);
+    named
 }
 
 // How long it is, and whether it shows slots.
 fn measure(file: &[u8], nothing: &mut [u8]) -> Listed
     requires file_len_bound { length file.now ≤ longest }
     requires nothing_len { length nothing.old ≡ 0 }
-    ensures { (result.to ≡ length (listing_of file.now)) × (result.slots ≡ names_slots file.now) }
+    ensures { (result.to ≡ moved 0 (length (listing_of file.now))) × (result.slots ≡ names_slots file.now) }
 {
-    let plain = write(file, false, nothing);
-    if plain.slots {
-        write(file, true, nothing)
-    } else {
-        plain
+    let mut page = Page::new(nothing);
+    let slots = write(&mut page, file, false);
+    if slots {
+        page.at = 0;
+        write(&mut page, file, true);
     }
+    Listed { to: page.at, slots }
 }
 
 // The listing of a file in a buffer of any size: its length; or 8, and the buffer as it was.
@@ -129,5 +131,7 @@ pub fn rev_listing(file: &[u8], out: &mut [u8]) -> usize
     if out.len() < all.to {
         return TOO_LONG;
     }
-    write(file, all.slots, out).to
+    let mut page = Page::new(out);
+    write(&mut page, file, all.slots);
+    page.at
 }

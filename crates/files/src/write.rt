@@ -20,6 +20,9 @@ use rows::{Component, Event, Message, Nature, Number};
 
 // ---- The bytes of a number, least first, where there is room for them: no test of each, so that a field is stored at once.
 
+// Kept: the writers of records take a buffer and a place in it, and no page: a page tests each byte against the buffer's end, where here the
+// room is known, and so a field becomes one store.
+
 // Kept: these halves become one store of 8 bytes, where a loop over a const parameter takes 15 instructions for it, and `to_le_bytes` with
 // `copy_from_slice` 6 more.
 

@@ -4,4 +4,4 @@ use Rattle.files.proofs.Turns.{Dumped}
 use Rattle.files.proofs.dump.write.Given as goal
 
 abbrev pub invariant-loop-at : goal.invariant-loop-at
-invariant-loop-at l = (l.at-iterator.file.now ≡ l.file) × Dumped l.file l.initial.out l.initial.to l.out l.to l.at-iterator.at l.count
+invariant-loop-at l = (l.at-iterator.file.now ≡ l.file) × Dumped l.file l.initial.page l.page l.at-iterator.at l.count

@@ -1,11 +1,9 @@
-use borrow.Author.Rules.{rules}
-use Rattle.std.proofs.Common.{rules}
-use Rattle.text.proofs.Laws.{puts}
-use Rattle.files.proofs.Texts.{action_by}
+use Rattle.files.specs.Lines.{action_text}
+use Rattle.text.proofs.Writes.{writes, wrote_by}
 use Rattle.files.proofs.lines.put_action.Goals as goal
 
-pub returns-in-NotifyAccepted-clause-put : goal.returns-in-NotifyAccepted-clause-put
-returns-in-NotifyAccepted-clause-put c = search (puts, action_by, rules)
+pub returns-in-NotifyAccepted : goal.returns-in-NotifyAccepted
+returns-in-NotifyAccepted c = search (writes, wrote_by (action_text c.args.m))
 
-pub returns-in-AccessError-clause-put : goal.returns-in-AccessError-clause-put
-returns-in-AccessError-clause-put c = search (puts, action_by, rules)
+pub returns-in-AccessError : goal.returns-in-AccessError
+returns-in-AccessError c = search (writes, wrote_by (action_text c.args.m))

@@ -1,21 +1,21 @@
-use Rattle.text.proofs.Laws.{puts, put_by}
 use Rattle.files.specs.Lines.{rev_text}
+use Rattle.text.proofs.Writes.{writes, wrote_by}
 use Rattle.files.proofs.lines.put_rev.Goals as goal
 
-pub returns-in-WaitSetup-clause-put : goal.returns-in-WaitSetup-clause-put
-returns-in-WaitSetup-clause-put c = search (puts, put_by rev_text)
+pub returns-in-WaitSetup : goal.returns-in-WaitSetup
+returns-in-WaitSetup c = search (writes, wrote_by rev_text)
 
-pub returns-in-WaitActive-clause-put : goal.returns-in-WaitActive-clause-put
-returns-in-WaitActive-clause-put c = search (puts, put_by rev_text)
+pub returns-in-WaitActive : goal.returns-in-WaitActive
+returns-in-WaitActive c = search (writes, wrote_by rev_text)
 
-pub returns-in-WaitAnswer-clause-put : goal.returns-in-WaitAnswer-clause-put
-returns-in-WaitAnswer-clause-put c = search (puts, put_by rev_text)
+pub returns-in-WaitAnswer : goal.returns-in-WaitAnswer
+returns-in-WaitAnswer c = search (writes, wrote_by rev_text)
 
-pub returns-in-WaitSetupConf-clause-put : goal.returns-in-WaitSetupConf-clause-put
-returns-in-WaitSetupConf-clause-put c = search (puts, put_by rev_text)
+pub returns-in-WaitSetupConf : goal.returns-in-WaitSetupConf
+returns-in-WaitSetupConf c = search (writes, wrote_by rev_text)
 
-pub returns-in-WaitActiveConf-clause-put : goal.returns-in-WaitActiveConf-clause-put
-returns-in-WaitActiveConf-clause-put c = search (puts, put_by rev_text)
+pub returns-in-WaitActiveConf : goal.returns-in-WaitActiveConf
+returns-in-WaitActiveConf c = search (writes, wrote_by rev_text)
 
-pub returns-in-WaitCalled-clause-put : goal.returns-in-WaitCalled-clause-put
-returns-in-WaitCalled-clause-put c = search (puts, put_by rev_text)
+pub returns-in-WaitCalled : goal.returns-in-WaitCalled
+returns-in-WaitCalled c = search (writes, wrote_by rev_text)

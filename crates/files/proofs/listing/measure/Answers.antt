@@ -1,11 +1,12 @@
-use Rattle.std.proofs.Common.{sym, ◌∙◌}
-use Rattle.files.proofs.Turns.{listed_length}
+use Rattle.std.proofs.Common.{sym, refl, ◌∙◌}
+use Rattle.files.proofs.Fits.{measured}
+use Rattle.files.proofs.Turns.{listed_as}
 use Rattle.files.proofs.listing.measure.Goals as goal
+use Rattle.files.proofs.listing.measure.Goals.{then-slots, else-slots}
 
-pub returns-then-plain : goal.returns-then-plain
-returns-then-plain c =
-    (listed_length _ _ _ (sym c.if-plain.true ∙ c.write-plain.ensures.slots_value) c.write.ensures.put.place, c.write.ensures.slots_value)
-
-pub returns-else-plain : goal.returns-else-plain
-returns-else-plain c =
-    (listed_length _ _ _ (sym c.if-plain.false ∙ c.write-plain.ensures.slots_value) c.write-plain.ensures.put.place, c.write-plain.ensures.slots_value)
+pub returns : goal.returns
+returns c =
+    elim c.if-slots.branch [
+      | then-slots w ↦ rw w.page-is (measured refl (listed_as _ _ _ _ (sym w.if-slots.true ∙ c.write-slots.ensures.value) w.write.ensures.put), c.write-slots.ensures.value)
+      | else-slots w ↦ rw w.page-is (measured c.new-page.ensures.at (listed_as _ _ _ _ (sym w.if-slots.false ∙ c.write-slots.ensures.value) c.write-slots.ensures.put), c.write-slots.ensures.value)
+    ]

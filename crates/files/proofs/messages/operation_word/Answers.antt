@@ -4,14 +4,14 @@ use Rattle.files.specs.Messages.{operation_text}
 use Rattle.text.proofs.Cases.{cases}
 use Rattle.files.proofs.messages.operation_word.Goals as goal
 
-pub returns-in-1-clause-word : goal.returns-in-1-clause-word
+pub returns-in-1 : goal.returns-in-1
 unfolding operation_text
-returns-in-1-clause-word c = search (cases, rules) depth 20
+returns-in-1 c = search (cases, rules) depth 20
 
-pub returns-in-2-clause-word : goal.returns-in-2-clause-word
+pub returns-in-2 : goal.returns-in-2
 unfolding operation_text
-returns-in-2-clause-word c = search (cases, rules) depth 20
+returns-in-2 c = search (cases, rules) depth 20
 
-pub returns-in_default-clause-word : goal.returns-in_default-clause-word
+pub returns-in_default : goal.returns-in_default
 unfolding operation_text
-returns-in_default-clause-word c = search (cases, rules) depth 20
+returns-in_default c = search (cases, rules) depth 20

@@ -1,9 +1,8 @@
-use Rattle.text.proofs.Laws.{put_none}
-use Rattle.files.proofs.Texts.{put_so, put_not}
+use Rattle.text.proofs.Writes.{wrote_none, wrote_not, wrote_so}
 use Rattle.files.proofs.messages.put_duration_if.Goals as goal
 
-pub returns-then-present-clause-put : goal.returns-then-present-clause-put
-returns-then-present-clause-put c = put_so _ _ _ _ _ _ _ c.if-present.true c.put_numbered.ensures.put
+pub returns-then-present : goal.returns-then-present
+returns-then-present c = wrote_so _ c.if-present.true c.numbered.ensures
 
-pub returns-else-present-clause-put : goal.returns-else-present-clause-put
-returns-else-present-clause-put c = put_not _ _ _ _ _ _ _ c.if-present.false (put_none _ _)
+pub returns-else-present : goal.returns-else-present
+returns-else-present c = wrote_not _ c.if-present.false (wrote_none _)

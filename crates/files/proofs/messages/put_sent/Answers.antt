@@ -1,9 +1,7 @@
-use borrow.Author.Rules.{rules}
-use Rattle.std.proofs.Common.{rules}
 use Rattle.files.specs.Messages.{sent_text}
-use Rattle.text.proofs.Laws.{puts}
+use Rattle.text.proofs.Writes.{writes}
 use Rattle.files.proofs.messages.put_sent.Goals as goal
 
-pub returns-clause-put : goal.returns-clause-put
+pub returns : goal.returns
 unfolding sent_text
-returns-clause-put c = search (puts, rules)
+returns c = search writes

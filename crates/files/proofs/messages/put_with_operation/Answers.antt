@@ -1,7 +1,7 @@
 use Rattle.files.specs.Messages.{with_operation}
-use Rattle.text.proofs.Laws.{put_after, put_as}
+use Rattle.text.proofs.Writes.{wrote_after, wrote_as}
 use Rattle.files.proofs.messages.put_with_operation.Goals as goal
 
-pub returns-clause-put : goal.returns-clause-put
+pub returns : goal.returns
 unfolding with_operation
-returns-clause-put c = put_after (put_as c.operation_word.ensures.word c.put_word.ensures) c.put_word-to.ensures
+returns c = wrote_after (wrote_as c.operation_word.ensures c.word-2.ensures) c.word.ensures

@@ -1,30 +1,28 @@
-use borrow.Author.Rules.{rules}
-use Rattle.std.proofs.Common.{rules}
 use Rattle.text.specs.Choose.{if_eq, if_so}
 use Rattle.files.specs.Words.{name_word}
-use Rattle.text.proofs.Laws.{puts, put_by}
+use Rattle.text.proofs.Writes.{writes, wrote_by}
 use Rattle.files.proofs.words.put_name.Goals as goal
 
-pub returns-in-1-clause-put : goal.returns-in-1-clause-put
+pub returns-in-1 : goal.returns-in-1
 unfolding name_word if_eq if_so
-returns-in-1-clause-put c = put_by name_word _ _ _ _ _ _ c.in-1.is c.put_word.ensures
+returns-in-1 c = wrote_by name_word _ _ _ _ c.in-1.is c.word.ensures
 
-pub returns-in-2-clause-put : goal.returns-in-2-clause-put
+pub returns-in-2 : goal.returns-in-2
 unfolding name_word if_eq if_so
-returns-in-2-clause-put c = put_by name_word _ _ _ _ _ _ c.in-2.is c.put_word-in-2.ensures
+returns-in-2 c = wrote_by name_word _ _ _ _ c.in-2.is c.word-in-2.ensures
 
-pub returns-in-3-clause-put : goal.returns-in-3-clause-put
+pub returns-in-3 : goal.returns-in-3
 unfolding name_word if_eq if_so
-returns-in-3-clause-put c = put_by name_word _ _ _ _ _ _ c.in-3.is c.put_word-in-3.ensures
+returns-in-3 c = wrote_by name_word _ _ _ _ c.in-3.is c.word-in-3.ensures
 
-pub returns-in-4-clause-put : goal.returns-in-4-clause-put
+pub returns-in-4 : goal.returns-in-4
 unfolding name_word if_eq if_so
-returns-in-4-clause-put c = put_by name_word _ _ _ _ _ _ c.in-4.is c.put_word-in-4.ensures
+returns-in-4 c = wrote_by name_word _ _ _ _ c.in-4.is c.word-in-4.ensures
 
-pub returns-in-5-clause-put : goal.returns-in-5-clause-put
+pub returns-in-5 : goal.returns-in-5
 unfolding name_word if_eq if_so
-returns-in-5-clause-put c = put_by name_word _ _ _ _ _ _ c.in-5.is c.put_word-in-5.ensures
+returns-in-5 c = wrote_by name_word _ _ _ _ c.in-5.is c.word-in-5.ensures
 
-pub returns-in_default-clause-put : goal.returns-in_default-clause-put
+pub returns-in_default : goal.returns-in_default
 unfolding name_word
-returns-in_default-clause-put c = search (puts, rules) depth 20
+returns-in_default c = search writes depth 20

@@ -1,9 +1,7 @@
-use borrow.Author.Rules.{rules}
-use Rattle.std.proofs.Common.{rules}
 use Rattle.files.specs.Words.{opening_words}
-use Rattle.text.proofs.Laws.{put_after}
+use Rattle.text.proofs.Writes.{writes}
 use Rattle.files.proofs.words.put_opening.Goals as goal
 
-pub returns-clause-put : goal.returns-clause-put
+pub returns : goal.returns
 unfolding opening_words
-returns-clause-put c = search (put_after, rules)
+returns c = search writes

@@ -1,18 +1,16 @@
-use borrow.Author.Rules.{rules}
-use Rattle.std.proofs.Common.{rules}
 use Rattle.text.specs.Choose.{if_eq, if_so}
 use Rattle.files.specs.Words.{role_word}
-use Rattle.text.proofs.Laws.{puts, put_by}
+use Rattle.text.proofs.Writes.{writes, wrote_by}
 use Rattle.files.proofs.words.put_role.Goals as goal
 
-pub returns-in-0-clause-put : goal.returns-in-0-clause-put
+pub returns-in-0 : goal.returns-in-0
 unfolding role_word if_eq if_so
-returns-in-0-clause-put c = put_by role_word _ _ _ _ _ _ c.in-0.is c.put_word.ensures
+returns-in-0 c = wrote_by role_word _ _ _ _ c.in-0.is c.word.ensures
 
-pub returns-in-1-clause-put : goal.returns-in-1-clause-put
+pub returns-in-1 : goal.returns-in-1
 unfolding role_word if_eq if_so
-returns-in-1-clause-put c = put_by role_word _ _ _ _ _ _ c.in-1.is c.put_word-in-1.ensures
+returns-in-1 c = wrote_by role_word _ _ _ _ c.in-1.is c.word-in-1.ensures
 
-pub returns-in_default-clause-put : goal.returns-in_default-clause-put
+pub returns-in_default : goal.returns-in_default
 unfolding role_word
-returns-in_default-clause-put c = search (puts, rules) depth 20
+returns-in_default c = search writes depth 20

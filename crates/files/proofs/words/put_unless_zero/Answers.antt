@@ -1,13 +1,11 @@
-use borrow.Author.Rules.{rules}
-use Rattle.std.proofs.Common.{rules}
 use Rattle.files.specs.Words.{unless_zero}
-use Rattle.text.proofs.Laws.{puts}
+use Rattle.text.proofs.Writes.{wrote_none, wrote_no, wrote_yes}
 use Rattle.files.proofs.words.put_unless_zero.Goals as goal
 
-pub returns-then-n-eq0-clause-put : goal.returns-then-n-eq0-clause-put
+pub returns-then-n-ne0 : goal.returns-then-n-ne0
 unfolding unless_zero
-returns-then-n-eq0-clause-put c = search (puts, rules)
+returns-then-n-ne0 c = wrote_no _ c.if-n-ne0.true c.numbered.ensures
 
-pub returns-else-n-eq0-clause-put : goal.returns-else-n-eq0-clause-put
+pub returns-else-n-ne0 : goal.returns-else-n-ne0
 unfolding unless_zero
-returns-else-n-eq0-clause-put c = search (puts, rules)
+returns-else-n-ne0 c = wrote_yes _ c.if-n-ne0.false (wrote_none _)
