@@ -15,13 +15,28 @@ const ANY: usize = 18446744073709551615;
 
 const NO_NAME: u16 = 256;
 
+// Tags: of an identifier, a reject's NULL, an operation or error, what holds others, and a SEQUENCE's own three elements.
+pub(crate) const INTEGER: u8 = 2;
+
+const NULL: u8 = 5;
+
+pub(crate) const OBJECT: u8 = 6;
+
+pub(crate) const SEQUENCE: u8 = 48;
+
+pub(crate) const FIRST: u8 = 128;
+
+pub(crate) const PARTY: u8 = 129;
+
+pub(crate) const LAST: u8 = 130;
+
 // ---- operations and errors
 
 // 06 07 00 11 85 60 03 01 NN
 fn code(s: &[u8], c: Cursor, end: usize, low: u8, high: u8) -> Cursor
     ensures { result ≡ code_of s.now c end low high }
 {
-    let e = need(s, c, end, 6, 7, 7);
+    let e = need(s, c, end, OBJECT, 7, 7);
     checked(listed(s, e.body, low, high), c.at, e)
 }
 
@@ -88,7 +103,7 @@ fn nothing(cursor: Cursor) -> Last
 fn partial(s: &[u8], c: Cursor, end: usize) -> Last
     ensures { result ≡ partial_of s.now c end }
 {
-    let cursor = may(s, c, end, 130, 1, 1);
+    let cursor = may(s, c, end, LAST, 1, 1);
     Last {
         cursor,
         part: flag_part(cursor.body, byte(s, cursor.body), 0, 8),
@@ -100,7 +115,7 @@ fn partial(s: &[u8], c: Cursor, end: usize) -> Last
 fn duration(s: &[u8], c: Cursor, end: usize) -> Last
     ensures { result ≡ duration_of s.now c end }
 {
-    let e = may(s, c, end, 130, 3, 3);
+    let e = may(s, c, end, LAST, 3, 3);
     if e.body == 0 {
         nothing(e)
     } else {
@@ -142,18 +157,18 @@ fn known(item: u8) -> u8
 fn parts(s: &[u8], c: Cursor, end: usize, kind: u8, item: u8) -> Said
     ensures { result ≡ parts_of s.now c end kind item }
 {
-    let f = may(s, c, end, 128, 1, 1);
-    let e = may(s, f, end, 129, 3, 10);
-    let number = party_at(s, e);
-    let g = checked(there(number), f.at, e);
-    let l = last(s, g, end, kind, item);
+    let flag = may(s, c, end, FIRST, 1, 1);
+    let party = may(s, flag, end, PARTY, 3, 10);
+    let number = party_at(s, party);
+    let good = checked(there(number), flag.at, party);
+    let third = last(s, good, end, kind, item);
     Said {
-        cursor: rest(s, l.cursor, end, depth(kind), known(item)),
-        parts: first_part(kind, f.body, byte(s, f.body))
+        cursor: rest(s, third.cursor, end, depth(kind), known(item)),
+        parts: first_part(kind, flag.body, byte(s, flag.body))
             + party_part(kind, item, number.count)
-            + l.part,
+            + third.part,
         number,
-        duration: l.duration,
+        duration: third.duration,
     }
 }
 
@@ -207,39 +222,39 @@ fn answer(c: Cursor, m: Component) -> Result<(Component, usize), Refusal>
 fn invoke(s: &[u8], at: usize, end: usize) -> Result<(Component, usize), Refusal>
     ensures { result ≡ invoke_of s.now at end }
 {
-    let i = need(s, absent(at), end, 2, 1, 1);
-    let l = may(s, i, end, 128, 1, 1);
-    let o = code(s, l, end, 1, 3);
-    let q = need(s, o, end, 48, 0, ANY);
-    let item = byte_past(s, o.body, 6);
-    let d = parts(s, inside(q), q.at, 1, item);
-    let z = closed(s, d.cursor, end);
-    answer(z, made(1, item, d, u16::from(byte(s, i.body))))
+    let id = need(s, absent(at), end, INTEGER, 1, 1);
+    let linked = may(s, id, end, FIRST, 1, 1);
+    let operation = code(s, linked, end, 1, 3);
+    let sequence = need(s, operation, end, SEQUENCE, 0, ANY);
+    let item = byte_past(s, operation.body, 6);
+    let said = parts(s, inside(sequence), sequence.at, 1, item);
+    let ended = closed(s, said.cursor, end);
+    answer(ended, made(1, item, said, u16::from(byte(s, id.body))))
 }
 
 // A2 len { id 30 len { op SEQ } }
 fn result(s: &[u8], at: usize, end: usize) -> Result<(Component, usize), Refusal>
     ensures { result ≡ result_of s.now at end }
 {
-    let i = need(s, absent(at), end, 2, 1, 1);
-    let h = need(s, i, end, 48, 0, ANY);
-    let o = code(s, inside(h), h.at, 1, 3);
-    let q = need(s, o, h.at, 48, 0, ANY);
-    let item = byte_past(s, o.body, 6);
-    let d = parts(s, inside(q), q.at, 2, item);
-    let z = closed(s, closed(s, d.cursor, h.at), end);
-    answer(z, made(2, item, d, u16::from(byte(s, i.body))))
+    let id = need(s, absent(at), end, INTEGER, 1, 1);
+    let held = need(s, id, end, SEQUENCE, 0, ANY);
+    let operation = code(s, inside(held), held.at, 1, 3);
+    let sequence = need(s, operation, held.at, SEQUENCE, 0, ANY);
+    let item = byte_past(s, operation.body, 6);
+    let said = parts(s, inside(sequence), sequence.at, 2, item);
+    let ended = closed(s, closed(s, said.cursor, held.at), end);
+    answer(ended, made(2, item, said, u16::from(byte(s, id.body))))
 }
 
 // A3 len { id err }
 fn error(s: &[u8], at: usize, end: usize) -> Result<(Component, usize), Refusal>
     ensures { result ≡ error_of s.now at end }
 {
-    let i = need(s, absent(at), end, 2, 1, 1);
-    let o = code(s, i, end, 4, 12);
-    let z = closed(s, o, end);
-    let item = byte_past(s, o.body, 6);
-    answer(z, bare(3, item, u16::from(byte(s, i.body))))
+    let id = need(s, absent(at), end, INTEGER, 1, 1);
+    let module = code(s, id, end, 4, 12);
+    let ended = closed(s, module, end);
+    let item = byte_past(s, module.body, 6);
+    answer(ended, bare(3, item, u16::from(byte(s, id.body))))
 }
 
 // The identifier of a reject, where it has no NULL in its place.
@@ -247,7 +262,7 @@ fn named(s: &[u8], n: Cursor, end: usize) -> Cursor
     ensures { result ≡ named_of s.now n end }
 {
     if n.body == 0 {
-        need(s, n, end, 2, 1, 1)
+        need(s, n, end, INTEGER, 1, 1)
     } else {
         n
     }
@@ -263,11 +278,11 @@ fn name(n: Cursor, b: u8) -> u16
 fn reject(s: &[u8], at: usize, end: usize) -> Result<(Component, usize), Refusal>
     ensures { result ≡ reject_of s.now at end }
 {
-    let n = may(s, absent(at), end, 5, 0, 0);
-    let i = named(s, n, end);
-    let p = need(s, i, end, problem_tag(byte(s, i.at)), 1, 1);
-    let z = closed(s, p, end);
-    answer(z, bare(4, 0, name(n, byte(s, i.body))))
+    let null = may(s, absent(at), end, NULL, 0, 0);
+    let id = named(s, null, end);
+    let problem = need(s, id, end, problem_tag(byte(s, id.at)), 1, 1);
+    let ended = closed(s, problem, end);
+    answer(ended, bare(4, 0, name(null, byte(s, id.body))))
 }
 
 // The component that fills the bytes up to their end, from its contents on: by the grammar, where it has not the usual form.

@@ -59,13 +59,8 @@ fn look(h: Result<Element, u8>, at: usize, tag: u8, least: usize, most: usize) -
 {
     match h {
         Err(n) => stopped(n, at),
-        Ok(e) => {
-            if e.tag == tag {
-                sized(at, e.body, e.next, least, most)
-            } else {
-                stopped(NOT_OURS, at)
-            }
-        }
+        Ok(e) if e.tag == tag => sized(at, e.body, e.next, least, most),
+        Ok(_) => stopped(NOT_OURS, at),
     }
 }
 

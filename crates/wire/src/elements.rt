@@ -32,17 +32,10 @@ pub fn element(s: &[u8], at: usize, end: usize, depth: u8, known: u8) -> Result<
 {
     match head(s, at, end, BAD_LENGTH) {
         Err(number) => refused(number, at),
-        Ok(e) => {
-            if depth == 0 {
-                refused(TOO_DEEP, at)
-            } else if own(e.tag, known) {
-                refused(NOT_OURS, at)
-            } else if e.tag / 32 % 2 == 1 {
-                sequence(s, e.body, e.next, depth - 1, 0)
-            } else {
-                Ok(e.next)
-            }
-        }
+        Ok(_) if depth == 0 => refused(TOO_DEEP, at),
+        Ok(e) if own(e.tag, known) => refused(NOT_OURS, at),
+        Ok(e) if e.tag / 32 % 2 == 1 => sequence(s, e.body, e.next, depth - 1, 0),
+        Ok(e) => Ok(e.next),
     }
 }
 
@@ -51,6 +44,7 @@ pub fn element(s: &[u8], at: usize, end: usize, depth: u8, known: u8) -> Result<
 pub fn sequence(s: &[u8], at: usize, end: usize, depth: u8, known: u8) -> Result<usize, Refusal>
     ensures { result ≡ sequence_of s.now at end depth known }
 {
+    // Kept: a `while`, here and in parameters.rt: the next place is what was read there, no count, and `several` counts components.
     let mut place = at;
     while place < end {
         place = element(s, place, end, depth, known)?;

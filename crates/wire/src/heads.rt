@@ -1,5 +1,6 @@
 // An element's first bytes: its tag and its length, short or long. `short` is the number for an element that passes `end`: 11 for a
 // component, 12 for what stands in one.
+// Kept: slice, places and `short` are handed on one by one: each function takes them as its definition of specs/Heads.antt does.
 // Kept: the number alone stands in Err, as in the definitions of specs/Heads.antt, which know no place; who asks makes the Refusal.
 #![tactic(auto, unfolding(crate::specs::Heads::length_place, crate::specs::Heads::filled_of, crate::specs::Heads::length_of, crate::specs::Heads::head_from, crate::specs::Heads::head_of, text::specs::Choose::if_lt, text::specs::Choose::if_le, text::specs::Choose::if_eq, text::specs::Choose::if_so))]
 

@@ -23,7 +23,7 @@ pub use writable::bad_field;
 pub use writer::{write_component, write_parameter};
 
 // A refusal's number, 11 to 14 of 01, and where it was met.
-// Kept: a number and no enum of the four, since where calls run out `element_by` and `walk_by` say 0, which `refused_is_numbered` rules out.
+// Kept: no enum of the four: `element_by`, `walk_by` can say 0 (`refused_is_numbered`, `parameter_refused_is_numbered`: no reader does).
 #[derive(Clone, Copy, PartialEq, Eq)]
 pub struct Refusal {
     pub number: u8,
@@ -41,6 +41,7 @@ pub struct Element {
 // Where a reader is. number: 0, or the refusal that stopped it, at the place `at`; nothing moves it then. at: the place of the next element.
 // body: where the contents of the element last asked for begin; 0 if it did not stand there.
 // Kept: the number beside the places and no Result, since the definitions of specs/Grammar.antt read `body` and `at` of a stopped cursor too.
+// Kept: 0 for no contents, since `absent_of` and `stopped_of` of specs/Cursors.antt have 0 as `body`, and the grammar reads on from it.
 #[derive(Clone, Copy)]
 pub struct Cursor {
     pub number: u8,
@@ -69,6 +70,7 @@ pub struct Component {
 }
 
 // What the last of a SEQUENCE's own elements says: the part that it sets, or 0; and a Duration.
+// Kept: a sum of powers of two for parts, here and in Said: `parts_of` of specs/Grammar.antt adds up what `last_of` and its like set.
 #[derive(Clone, Copy)]
 pub struct Last {
     pub cursor: Cursor,

@@ -9,7 +9,9 @@ ghost use Rattle.wire.specs.Grammar.{cut_short, parts_of, invoke_of, result_of, 
 ghost use Rattle.wire.specs.Quick.{begins_of, short_of, after_of, number_after, number_at, last_after, last_part, last_seconds, last_ok, number_ok, said_of, coded_at, SaidAs, ReadAs};
 
 use crate::bytes::{byte, byte_past};
-use crate::components::{bare, first_part, flag_part, made, party_part};
+use crate::components::{
+    FIRST, INTEGER, LAST, OBJECT, PARTY, SEQUENCE, bare, first_part, flag_part, made, party_part,
+};
 use crate::cursors::absent;
 use crate::heads::{CUT_SHORT, head};
 use crate::values::{ABSENT, clock, listed, party, seconds, there};
@@ -27,6 +29,7 @@ fn begins(s: &[u8], i: usize, tag: u8, size: usize) -> bool
 }
 
 // The byte after a tag of one byte, where so many bytes follow it; 128 where not. Below 128 it is the element's length.
+// Kept: 128 and no Option, as `short_of` of specs/Quick.antt has it; so too `after`, with its own place for none, as `after_of` has it.
 fn short(s: &[u8], at: usize) -> usize
     ensures { result ≡ short_of s.now at }
 {
@@ -70,8 +73,8 @@ fn number_after(s: &[u8], i: usize) -> usize
     ensures { result ≡ number_after s.now i }
 {
     let size = byte_past(s, i, 1);
-    if 3 <= size && size <= 10 {
-        after(s, i, 129, usize::from(size))
+    if (3..=10).contains(&size) {
+        after(s, i, PARTY, usize::from(size))
     } else {
         i
     }
@@ -94,9 +97,9 @@ fn last_after(s: &[u8], i: usize, kind: u8, item: u8) -> usize
     if item != 3 {
         i
     } else if kind == 1 {
-        after(s, i, 130, 1)
+        after(s, i, LAST, 1)
     } else {
-        after(s, i, 130, 3)
+        after(s, i, LAST, 3)
     }
 }
 
@@ -129,15 +132,16 @@ fn last_ok(s: &[u8], i: usize, next: usize, kind: u8) -> bool
     kind == 1 || next.saturating_sub(i) < 2 || clock(s, i + 2)
 }
 
-fn said(s: &[u8], i: usize, f: usize, e: usize, number: Number, kind: u8, item: u8) -> Said
-    ensures { result ≡ said_of s.now i f e number kind item }
+// Where the BOOLEAN ends at `flag` and the number at `party`.
+fn said(s: &[u8], i: usize, flag: usize, party: usize, number: Number, kind: u8, item: u8) -> Said
+    ensures { result ≡ said_of s.now i flag party number kind item }
 {
-    let first = first_part(kind, f.saturating_sub(i), byte_past(s, i, 2));
+    let first = first_part(kind, flag.saturating_sub(i), byte_past(s, i, 2));
     Said {
         cursor: absent(s.len()),
-        parts: first + party_part(kind, item, number.count) + last_part(s, e, s.len(), kind),
+        parts: first + party_part(kind, item, number.count) + last_part(s, party, s.len(), kind),
         number,
-        duration: last_seconds(s, e, s.len(), kind),
+        duration: last_seconds(s, party, s.len(), kind),
     }
 }
 
@@ -152,12 +156,15 @@ fn number_ok(size: usize, n: Number) -> bool
 fn parts(s: &[u8], i: usize, kind: u8, item: u8) -> Option<Said>
     ensures { SaidAs s.now (parts_of s.now (absent_of i) (length s.now) kind item) result }
 {
-    let f = after(s, i, 128, 1);
-    let e = number_after(s, f);
-    let z = last_after(s, e, kind, item);
-    let n = number_at(s, f, e);
-    if z == s.len() && number_ok(e.saturating_sub(f), n) && last_ok(s, e, z, kind) {
-        Some(said(s, i, f, e, n, kind, item))
+    let flag = after(s, i, FIRST, 1);
+    let party = number_after(s, flag);
+    let end = last_after(s, party, kind, item);
+    let number = number_at(s, flag, party);
+    if end == s.len()
+        && number_ok(party.saturating_sub(flag), number)
+        && last_ok(s, party, end, kind)
+    {
+        Some(said(s, i, flag, party, number, kind, item))
     } else {
         None
     }
@@ -168,55 +175,53 @@ fn coded(s: &[u8], i: usize, low: u8, high: u8) -> bool
     requires { i + 2 < 2 ^ 64 }
     ensures { result ≡ coded_at s.now i low high }
 {
-    begins(s, i, 6, 7) && listed(s, i + 2, low, high)
+    begins(s, i, OBJECT, 7) && listed(s, i + 2, low, high)
 }
 
 // { id op SEQ }
 pub fn invoke(s: &[u8], at: usize) -> Option<Component>
     ensures { ReadAs s.now (invoke_of s.now at (length s.now)) result }
 {
-    if s.len() < 14 || s.len() - 14 < at {
-        return None;
-    }
-    let size = s.len() - 14 - at;
+    let size = s.len().checked_sub(at)?.checked_sub(14)?;
     if 127 < size
-        || !begins(s, at, 2, 1)
+        || !begins(s, at, INTEGER, 1)
         || !coded(s, at + 3, 1, 3)
-        || !begins(s, at + 12, 48, size)
+        || !begins(s, at + 12, SEQUENCE, size)
     {
         return None;
     }
     let item = s[at + 11];
-    let d = parts(s, at + 14, 1, item)?;
-    Some(made(1, item, d, u16::from(s[at + 2])))
+    let said = parts(s, at + 14, 1, item)?;
+    Some(made(1, item, said, u16::from(s[at + 2])))
 }
 
 // { id 30 len { op SEQ } }
 pub fn result(s: &[u8], at: usize) -> Option<Component>
     ensures { ReadAs s.now (result_of s.now at (length s.now)) result }
 {
-    if s.len() < 16 || s.len() - 16 < at {
-        return None;
-    }
-    let size = s.len() - 16 - at;
+    let size = s.len().checked_sub(at)?.checked_sub(16)?;
     if 116 < size
-        || !begins(s, at, 2, 1)
-        || !begins(s, at + 3, 48, size + 11)
+        || !begins(s, at, INTEGER, 1)
+        || !begins(s, at + 3, SEQUENCE, size + 11)
         || !coded(s, at + 5, 1, 3)
-        || !begins(s, at + 14, 48, size)
+        || !begins(s, at + 14, SEQUENCE, size)
     {
         return None;
     }
     let item = s[at + 13];
-    let d = parts(s, at + 16, 2, item)?;
-    Some(made(2, item, d, u16::from(s[at + 2])))
+    let said = parts(s, at + 16, 2, item)?;
+    Some(made(2, item, said, u16::from(s[at + 2])))
 }
 
 // { id err }
 pub fn error(s: &[u8], at: usize) -> Option<Component>
     ensures { ReadAs s.now (error_of s.now at (length s.now)) result }
 {
-    if s.len() < 12 || s.len() - 12 != at || !begins(s, at, 2, 1) || !coded(s, at + 3, 4, 12) {
+    if s.len() < 12
+        || s.len() - 12 != at
+        || !begins(s, at, INTEGER, 1)
+        || !coded(s, at + 3, 4, 12)
+    {
         return None;
     }
     Some(bare(3, s[at + 11], u16::from(s[at + 2])))

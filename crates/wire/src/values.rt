@@ -7,6 +7,7 @@ ghost use Rattle.wire.specs.Values.{module_at, listed_at, paired_of, pairs_at, c
 use crate::Number;
 use crate::bytes::{byte, byte_past};
 
+// Kept: absent for "is no number", here and below, and no Option: `party_of` and `there_of` of specs/Values.antt have it so.
 pub const ABSENT: Number = Number { count: 0, value: 0 };
 
 // ---- operations and errors
@@ -23,8 +24,7 @@ pub fn listed(s: &[u8], i: usize, low: u8, high: u8) -> bool
     ensures { result ≡ listed_at s.now i low high }
 {
     let n = byte_past(s, i, 6);
-    // Kept: here and in `number_after` two comparisons: by `contains` of a range the usual parameters take 216 thousand instructions, not 210.
-    module(s, i) && low <= n && n <= high
+    module(s, i) && (low..=high).contains(&n)
 }
 
 // ---- numbers
@@ -57,24 +57,17 @@ fn counted(m: u8, odd: bool, nature: u8, v: u64) -> Number
     requires { (m ≤ 8) × (nature ≤ 128) }
     ensures { result ≡ counted_of m odd nature v }
 {
-    if m == 0 {
-        ABSENT
-    } else if odd {
-        if v % 10 == 0 {
-            Number {
-                count: nature + (2 * m - 1),
-                value: v / 10,
-            }
-        } else {
-            ABSENT
-        }
-    } else if m == 8 {
-        ABSENT
-    } else {
-        Number {
+    match (m, odd) {
+        (0, _) => ABSENT,
+        (_, true) if v % 10 == 0 => Number {
+            count: nature + (2 * m - 1),
+            value: v / 10,
+        },
+        (_, true) | (8, false) => ABSENT,
+        _ => Number {
             count: nature + 2 * m,
             value: v,
-        }
+        },
     }
 }
 
@@ -82,14 +75,10 @@ fn natured(m: u8, first: u8, second: u8, v: u64) -> Number
     requires { m ≤ 8 }
     ensures { result ≡ natured_of m first second v }
 {
-    if second / 16 == 1 {
-        match first % 128 {
-            3 => counted(m, first / 128 == 1, 0, v),
-            4 => counted(m, first / 128 == 1, 128, v),
-            _ => ABSENT,
-        }
-    } else {
-        ABSENT
+    match (second / 16, first % 128) {
+        (1, 3) => counted(m, first / 128 == 1, 0, v),
+        (1, 4) => counted(m, first / 128 == 1, 128, v),
+        _ => ABSENT,
     }
 }
 
@@ -97,10 +86,10 @@ fn digited(m: u8, first: u8, second: u8, d: Option<u64>) -> Number
     requires { m ≤ 8 }
     ensures { result ≡ digited_of m first second d }
 {
-    match d {
-        None => ABSENT,
-        Some(v) => natured(m, first, second, v),
-    }
+    let Some(v) = d else {
+        return ABSENT;
+    };
+    natured(m, first, second, v)
 }
 
 fn party_by(s: &[u8], i: usize, m: usize) -> Number
@@ -149,6 +138,7 @@ pub fn seconds(s: &[u8], i: usize) -> u32
 
 // ---- one byte
 
+// Kept: 128 for any other byte, and no Option: `problem_tag` of specs/Values.antt has a tag for each, which the grammar then asks for.
 pub fn problem_tag(b: u8) -> u8
     ensures { result ≡ problem_tag b }
 {

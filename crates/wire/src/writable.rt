@@ -111,6 +111,7 @@ fn id_ok(kind: u8, id: u16) -> bool
 
 // Its ordinal. A number or Duration that the parts do not name is no field.
 #[tactic(auto, using(crate::proofs::Fields::first_told))]
+// Kept: 0 or 1 for a part that is named, since each named one before a field adds 1 to its ordinal, as `bad_from` of specs counts.
 pub fn bad_field(c: Component) -> Option<u8>
     ensures { result ≡ ordinal (bad_of c) }
 {

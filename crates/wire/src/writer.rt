@@ -247,6 +247,7 @@ fn put_parameter(page: &mut Page<'_>, c: Component)
 // ---- what a host is given
 
 // What is given of a component's text: the first bad field of what cannot be written, then too little room; else its bytes.
+// Kept: like files' `judge`, and Unwritten like files' own: neither of the two crates rests on the other, and their clauses name their own.
 fn give(c: Component, text: &[u8], out: &mut [u8]) -> Result<usize, Unwritten>
     ensures { (result ≡ written_of (bad_of c) text.now out.old)
         × (out.new ≡ leaves_of (bad_of c) text.now out.old) }

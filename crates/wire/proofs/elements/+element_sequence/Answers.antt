@@ -4,23 +4,23 @@ use Rattle.std.proofs.lemmas.Result.{err_from_is_err_and}
 use Rattle.wire.proofs.Levels.{element_bad, element_deep, element_own, element_held, element_plain, held_falls, going_done, going_stop, going_on, going_less}
 use Rattle.wire.proofs.elements.+element_sequence.Goals as goal
 
-pub element-returns-then-depth-eq0 : goal.element-returns-then-depth-eq0
-element-returns-then-depth-eq0 t c = search element_deep
+pub element-returns-in-Ok : goal.element-returns-in-Ok
+element-returns-in-Ok t c = search element_deep
 
-pub element-returns-then-own : goal.element-returns-then-own
-element-returns-then-own t c = search element_own
+pub element-returns-in-Ok-2 : goal.element-returns-in-Ok-2
+element-returns-in-Ok-2 t c = search element_own
 
 pub element-sequence-requires : goal.element-sequence-requires
 element-sequence-requires t c = (search held_falls, tt)
 
-pub element-returns-then-e-eq1 : goal.element-returns-then-e-eq1
-element-returns-then-e-eq1 t c = search element_held
+pub element-returns-in-Ok-3 : goal.element-returns-in-Ok-3
+element-returns-in-Ok-3 t c = search element_held
 
 pub element-returns-in-Err : goal.element-returns-in-Err
 element-returns-in-Err t c = search element_bad
 
-pub element-returns-else-e-eq1 : goal.element-returns-else-e-eq1
-element-returns-else-e-eq1 t c = search element_plain
+pub element-returns-in-Ok-4 : goal.element-returns-in-Ok-4
+element-returns-in-Ok-4 t c = search element_plain
 
 pub sequence-returns-in_err-place : goal.sequence-returns-in_err-place
 sequence-returns-in_err-place t c = let p = err_from_is_err_and c.from_residual.result c.from_residual.ensures.1 in rw (p.1, p.2) (search (going_stop, c.in_err-place.was))
