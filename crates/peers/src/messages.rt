@@ -11,7 +11,7 @@ use wire::{Component, Unwritten};
 
 // ---- from the wire
 
-// Kept: no `From` here and at `party`, since both types of a number belong to other crates.
+// Kept: no `From` here and at `party`: both types of a number are of other crates, since wire may know no calls, and rows no bytes.
 fn number(n: wire::Number) -> Number
     ensures { result ≡ number_of n }
 {

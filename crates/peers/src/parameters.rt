@@ -19,6 +19,7 @@ use wire::Component;
 
 // ---- from a parameter to entries
 
+// Kept: message and cause are passed one by one, here and below: they are the two numbers that a host in C passes (rev_read_parameter).
 fn read(parameter: &[u8], message: u8, cause: u8, out: &mut [u8]) -> Result<usize, Refusal>
     ensures { (given result ≡ read_gives message cause (parameter_of parameter.now) out.old)
         × (out.new ≡ read_leaves message cause (parameter_of parameter.now) out.old)
@@ -55,10 +56,7 @@ fn nearest(field: u8, of_component: Option<u8>) -> u16
     ensures upper_bound { result ≤ 255 }
 {
     let field = u16::from(field);
-    match of_component {
-        Some(k) if in_record(k) < field => in_record(k),
-        _ => field,
-    }
+    of_component.map_or(field, |k| field.min(in_record(k)))
 }
 
 fn write_component(c: Component, out: &mut [u8]) -> Result<usize, Refusal>

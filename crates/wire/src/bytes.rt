@@ -34,9 +34,5 @@ pub fn big(s: &[u8], i: usize, k: usize) -> usize
 pub fn byte_past(s: &[u8], i: usize, k: usize) -> u8
     ensures { result ≡ byte_at s.now (i + k) }
 {
-    if i < s.len() && k < s.len() - i {
-        s[i + k]
-    } else {
-        0
-    }
+    byte(s, i.saturating_add(k))
 }

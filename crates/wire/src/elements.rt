@@ -30,6 +30,7 @@ fn own(tag: u8, known: u8) -> bool
 pub fn element(s: &[u8], at: usize, end: usize, depth: u8, known: u8) -> Result<usize, Refusal>
     ensures { result ≡ element_of s.now at end depth known }
 {
+    // Kept: a match, here and in `read_component`: tried by `map_err` and `?`, and what `returns` must prove did not close.
     match head(s, at, end, BAD_LENGTH) {
         Err(number) => refused(number, at),
         Ok(_) if depth == 0 => refused(TOO_DEEP, at),

@@ -40,7 +40,7 @@ pub struct Element {
 
 // Where a reader is. number: 0, or the refusal that stopped it, at the place `at`; nothing moves it then. at: the place of the next element.
 // body: where the contents of the element last asked for begin; 0 if it did not stand there.
-// Kept: the number beside the places and no Result, since the definitions of specs/Grammar.antt read `body` and `at` of a stopped cursor too.
+// Kept: the number beside the places and no Result: the definitions of specs/Grammar.antt read `body` and `at` of a stopped cursor too.
 // Kept: 0 for no contents, since `absent_of` and `stopped_of` of specs/Cursors.antt have 0 as `body`, and the grammar reads on from it.
 #[derive(Clone, Copy)]
 pub struct Cursor {
@@ -50,7 +50,7 @@ pub struct Cursor {
 }
 
 // A telephone number as a record of 01 has it: the count of its digits, 128 more for an international one, and its value. Absent: 0 and 0.
-// Kept: here and in Component numbers, no Option and no enum: fields out of range are values, which `bad_field` tells (`told_is_first_bad`).
+// Kept: here and in Component numbers, no Option, no enum: fields out of range are values, which `bad_field` tells (`told_is_first_bad`).
 #[derive(Clone, Copy)]
 pub struct Number {
     pub count: u8,

@@ -46,6 +46,7 @@ fn pairs(s: &[u8], i: usize, m: usize) -> Option<u64>
     requires { (m ≤ 8) × (i + (2 + m) ≤ length s.now) }
     ensures { result ≡ pairs_at s.now i m }
 {
+    // Kept: a count of pairs, as `pairs_at` of specs/Values.antt has it; `&s[i + 2..i + 2 + m]` in its place would be no plainer.
     let mut v = 0;
     for j in 0..m {
         v = paired(v, s[i + (2 + j)])?;
