@@ -56,16 +56,10 @@ pub put_wrote : {a b : Page} {t : List ℕ} → b.out.ghost_name ≡ a.out.ghost
     → (length a.out.now < 2 ^ 63 → Put a.out.now a.at t b.out.now (a.at + length t)) → Wrote t a b
 put_wrote e f p = record { same = e; bytes = λ h. (p h).bytes; place = f }
 
--- a text that was put at the start of a page, all of it, is what the buffer begins with
-pub wrote_first : {a b : Page} {t : List ℕ} → length a.out.now < 2 ^ 63 → a.at ≡ 0 → length t ≤ length a.out.now → Wrote t a b → take b.at b.out.now ≡ t
-wrote_first {a} {b} {t} h z g p =
-    let e : b.at ≡ 0 + length t = omega (arith, p.place, z, h, g) in
-    put_first (omega (arith, e, g)) (record { bytes = p.bytes h ∙ ap (λ (i : ℕ). sets a.out.now i t) z; place = e })
-
--- .. and what stands up to the page's place, where the buffer goes so far, is the text
-pub wrote_begins : {a b : Page} {t new : List ℕ} {n : ℕ} → new ≡ b.out.now → n ≡ b.at → a.at ≡ 0 → length a.out.now < 2 ^ 63 → n ≤ length new
+-- a text that was put at the start of a buffer, all of it, is what the buffer begins with
+pub wrote_first : {a b : Page} {t new : List ℕ} {n : ℕ} → new ≡ b.out.now → n ≡ b.at → a.at ≡ 0 → length a.out.now < 2 ^ 63 → n ≤ length new
     → Wrote t a b → take n new ≡ t
-wrote_begins {a} {b} {t} {new} f k e h l p =
+wrote_first {a} {b} {t} {new} f k e h l p =
     let g : length new ≡ length a.out.now = ap length (f ∙ p.bytes h) ∙ length-sets a.out.now a.at t in
     put_first (omega (arith, l, g)) (record { bytes = f ∙ p.bytes h ∙ ap (λ (n : ℕ). sets a.out.now n t) e; place = omega (arith, p.place, k, e, l, g, h) })
 
@@ -74,23 +68,23 @@ pub wrote_by : {A : Type 0} (f : A → List ℕ) (x y : A) (a b : Page) → x �
 wrote_by f x y a b e p = wrote_as (ap f (sym e)) p
 
 -- a text that goes by a test
-pub wrote_yes : {a b : Page} {m n : ℕ} {s : List ℕ} (t : List ℕ) → m ≡ n → Wrote s a b → Wrote (if_eq m n s t) a b
-wrote_yes {m = m} {n = n} {s = s} t e p = wrote_as (yes_eq m n s s t e refl) p
+pub wrote_yes : (m n : ℕ) (a b : Page) (s t : List ℕ) → m ≡ n → Wrote s a b → Wrote (if_eq m n s t) a b
+wrote_yes m n a b s t e p = wrote_as (yes_eq m n s s t e refl) p
 
-pub wrote_no : {a b : Page} {m n : ℕ} {t : List ℕ} (s : List ℕ) → (m ≡ n → ⊥) → Wrote t a b → Wrote (if_eq m n s t) a b
-wrote_no {m = m} {n = n} {t = t} s f p = wrote_as (no_eq m n t s t f refl) p
+pub wrote_no : (m n : ℕ) (a b : Page) (s t : List ℕ) → (m ≡ n → ⊥) → Wrote t a b → Wrote (if_eq m n s t) a b
+wrote_no m n a b s t f p = wrote_as (no_eq m n t s t f refl) p
 
-pub wrote_below : {a b : Page} {m n : ℕ} {s : List ℕ} (t : List ℕ) → m < n → Wrote s a b → Wrote (if_lt m n s t) a b
-wrote_below {m = m} {n = n} {s = s} t h p = wrote_as (yes_lt m n s s t h refl) p
+pub wrote_so : (x : Bool) (a b : Page) (s t : List ℕ) → x ≡ true → Wrote s a b → Wrote (if_so x s t) a b
+wrote_so x a b s t e p = wrote_as (yes_so x s s t e refl) p
 
-pub wrote_above : {a b : Page} {m n : ℕ} {t : List ℕ} (s : List ℕ) → n ≤ m → Wrote t a b → Wrote (if_lt m n s t) a b
-wrote_above {m = m} {n = n} {t = t} s h p = wrote_as (no_lt m n t s t h refl) p
+pub wrote_not : (x : Bool) (a b : Page) (s t : List ℕ) → x ≡ false → Wrote t a b → Wrote (if_so x s t) a b
+wrote_not x a b s t e p = wrote_as (no_so x t s t e refl) p
 
-pub wrote_so : {a b : Page} {x : Bool} {s : List ℕ} (t : List ℕ) → x ≡ true → Wrote s a b → Wrote (if_so x s t) a b
-wrote_so {x = x} {s = s} t h p = wrote_as (yes_so x s s t h refl) p
+pub wrote_below : (m n : ℕ) (a b : Page) (s t : List ℕ) → m < n → Wrote s a b → Wrote (if_lt m n s t) a b
+wrote_below m n a b s t h p = wrote_as (yes_lt m n s s t h refl) p
 
-pub wrote_not : {a b : Page} {x : Bool} {t : List ℕ} (s : List ℕ) → x ≡ false → Wrote t a b → Wrote (if_so x s t) a b
-wrote_not {x = x} {t = t} s h p = wrote_as (no_so x t s t h refl) p
+pub wrote_above : (m n : ℕ) (a b : Page) (s t : List ℕ) → n ≤ m → Wrote t a b → Wrote (if_lt m n s t) a b
+wrote_above m n a b s t h p = wrote_as (no_lt m n t s t h refl) p
 
 -- the digits of a number are its last ones, as many as there are
 pub all_digits : (n k : ℕ) → k ≡ length (decimal n) → last_digits k n ≡ decimal n

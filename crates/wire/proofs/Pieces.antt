@@ -11,6 +11,7 @@ use lib.ListN.{length, take, set, length-append}
 use lib.Seq.{append_snoc, sets, set_out, set-set}
 use Rattle.text.specs.Text.{Put}
 use Rattle.text.specs.Page.{Wrote}
+use Rattle.wire.specs.Pages.{Opened, Closed}
 use Rattle.text.specs.declared.page.Page.{Page}
 use Rattle.std.proofs.lemmas.Bool.{cases_lt}
 use Rattle.text.proofs.Cases.{yes_eq, no_eq}
@@ -102,15 +103,15 @@ set_late l i x n t =
     ∙ ap (λ (m : List ℕ). sets m (suc (suc i)) t) (set-set (set l i x) (suc i) 0 n)
 
 -- an element: its tag and room for its length, its contents t, and the length set when these stand
-pub element_wrote : (tag : ℕ) {a b c d : Page} {t : List ℕ} {body : ℕ} → length t < 256 → Wrote (tag ∷ 0 ∷ []) a b → body ≡ b.at → Wrote t b c
-    → d.out.ghost_name ≡ c.out.ghost_name → d.out.now ≡ set c.out.now (body - 1) ((c.at - body) % 256) → d.at ≡ c.at → Wrote (element_text tag t) a d
+pub element_wrote : (tag : ℕ) {a b c d : Page} {t : List ℕ} {body : ℕ} → length t < 256 → Opened tag a b body → Wrote t b c → Closed body c d → Wrote (element_text tag t) a d
 unfolding element_text
-element_wrote tag {a} {b} {c} {d} {t} {body} h p e q same bytes place =
+element_wrote tag {a} {b} {c} {d} {t} {body} h o q z =
+    let p = o.put in
     let w : Wrote (tag ∷ 0 ∷ t) a c = wrote_after q p in
     record {
-      same = same ∙ w.same;
-      bytes = λ k. bytes ∙ ap (λ (l : List ℕ). set l (body - 1) ((c.at - body) % 256)) (w.bytes k) ∙ go k (cases_lt 18446744073709551615 (a.at + 2 + length t));
-      place = place ∙ w.place;
+      same = z.same ∙ w.same;
+      bytes = λ k. z.bytes ∙ ap (λ (l : List ℕ). set l (body - 1) ((c.at - body) % 256)) (w.bytes k) ∙ go k (cases_lt 18446744073709551615 (a.at + 2 + length t));
+      place = z.place ∙ w.place;
     }
   where
     go : length a.out.now < 2 ^ 63 → (18446744073709551615 < a.at + 2 + length t) ⊎ (a.at + 2 + length t ≤ 18446744073709551615)
@@ -118,20 +119,16 @@ element_wrote tag {a} {b} {c} {d} {t} {body} h p e q same bytes place =
     go k (inl g) =
         let s : sets a.out.now a.at (tag ∷ 0 ∷ t) ≡ a.out.now = sym (put_past a.out.now a.at _ (tag ∷ 0 ∷ t) (omega arith) refl).bytes in
         let r : a.out.now ≡ sets a.out.now a.at (tag ∷ length t ∷ t) = (put_past a.out.now a.at _ (tag ∷ length t ∷ t) (omega arith) refl).bytes in
-        ap (λ (l : List ℕ). set l (body - 1) ((c.at - body) % 256)) s ∙ set_out a.out.now (body - 1) ((c.at - body) % 256) (omega (arith, p.place)) ∙ r
+        ap (λ (l : List ℕ). set l (body - 1) ((c.at - body) % 256)) s ∙ set_out a.out.now (body - 1) ((c.at - body) % 256) (omega (arith, o.place, o.put.place)) ∙ r
     go k (inr g) =
-        let i : body - 1 ≡ a.at + 1 = omega (arith, p.place) in
-        let n : (c.at - body) % 256 ≡ length t = omega (arith, p.place, q.place) in
+        let i : body - 1 ≡ a.at + 1 = omega (arith, o.place, o.put.place) in
+        let n : (c.at - body) % 256 ≡ length t = omega (arith, o.place, o.put.place, q.place) in
         ap (λ (j : ℕ). set (sets a.out.now a.at (tag ∷ 0 ∷ t)) j ((c.at - body) % 256)) i
         ∙ ap (λ (m : ℕ). set (sets a.out.now a.at (tag ∷ 0 ∷ t)) (a.at + 1) m) n ∙ set_late a.out.now a.at tag (length t) t
 
 pub parameter_is : (c : Component) → element_text 50 (145 ∷ component_text c) ≡ parameter_text c
 unfolding element_text parameter_text
 parameter_is c = ap (λ (n : ℕ). 50 ∷ n ∷ 145 ∷ component_text c) (sym (add-one (length (component_text c))))
-
--- the length of a text that was put on a page from its start
-pub measured : {a b : Page} (t : List ℕ) → length t < 2 ^ 63 → a.at ≡ 0 → Wrote t a b → b.at ≡ length t
-measured t h e p = omega (arith, p.place)
 
 -- what was put on a page from its start, all of it, is what the page's buffer x begins with
 pub begun : {a b : Page} (t x : List ℕ) → length t ≤ length a.out.now → length a.out.now < 2 ^ 63 → a.at ≡ 0 → Wrote t a b → x ≡ b.out.now → take b.at x ≡ t

@@ -4,6 +4,7 @@ pub mod Cursors
 pub mod Elements
 pub mod Grammar
 pub mod Heads
+pub mod Pages
 pub mod Parameters
 pub mod Quick
 pub mod Texts

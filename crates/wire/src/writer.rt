@@ -1,10 +1,10 @@
 // A component's bytes, put on a page of `text`. An element's tag is put first, and a byte that is set to its length when its contents stand.
 // A text is put on a page of the longest one's size, and given to a host that has room for it.
-ghost use Rattle.std.specs.Prelude.{◌≡◌, ◌∷◌, [], ◌+◌, ◌-◌, ◌/◌, ◌%◌, ◌<◌, ◌^◌, set};
-ghost use Rattle.text.specs.Choose.{if_so, if_lt, if_eq};
+ghost use Rattle.std.specs.Prelude.{◌≡◌, ◌∷◌, [], ◌+◌, ◌/◌, ◌%◌, ◌<◌, ◌^◌};
+ghost use Rattle.text.specs.Choose.{if_so};
 ghost use Rattle.text.specs.Text.{Put};
 ghost use Rattle.text.specs.Page.{Wrote};
-ghost use Rattle.wire.specs.declared.Unwritten.TheVariants.{BadField, NoRoom};
+ghost use Rattle.wire.specs.Pages.{Opened, Closed};
 ghost use Rattle.wire.specs.Texts.{element_text, pair_byte, octets_of, padded_of, number_text, first_text, parties_text, last_text, parts_text, seq_text, id_text, rejected_text, code_text, invoke_text, held_text, result_text, error_text, reject_text, component_text, parameter_text, written_of, leaves_of};
 ghost use Rattle.wire.specs.Writable.{bad_of};
 
@@ -16,8 +16,7 @@ use text::Page;
 
 // An element's tag, and room for its length. The place where its contents begin.
 fn open(page: &mut Page<'_>, tag: u8) -> usize
-    ensures put { Wrote (tag ∷ 0 ∷ []) page.old page.new }
-    ensures place { result ≡ page.new.at }
+    ensures { Opened tag page.old page.new result }
 {
     page.word(&[tag, 0]);
     page.at
@@ -25,9 +24,7 @@ fn open(page: &mut Page<'_>, tag: u8) -> usize
 
 // The length of the contents that begin at `body`, in the byte before them.
 fn close(page: &mut Page<'_>, body: usize)
-    ensures same { page.new.out.ghost_name ≡ page.old.out.ghost_name }
-    ensures bytes { page.new.out.now ≡ set page.old.out.now (body - 1) ((page.old.at - body) % 256) }
-    ensures place { page.new.at ≡ page.old.at }
+    ensures { Closed body page.old page.new }
 {
     let place = body.saturating_sub(1);
     if place < page.out.len() {

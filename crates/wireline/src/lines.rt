@@ -149,6 +149,7 @@ pub(crate) fn put_line_in(page: &mut Page<'_>, forms: u8, c: Component)
     put_values(page, forms, c);
 }
 
+#[tactic(auto, unfolding(crate::specs::Lines::line_text))]
 pub(crate) fn put_line(page: &mut Page<'_>, c: Component)
     ensures { Wrote (line_text c) page.old page.new }
 {

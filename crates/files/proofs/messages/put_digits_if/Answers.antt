@@ -2,7 +2,7 @@ use Rattle.text.proofs.Writes.{wrote_none, wrote_not, wrote_so}
 use Rattle.files.proofs.messages.put_digits_if.Goals as goal
 
 pub returns-then-present : goal.returns-then-present
-returns-then-present c = wrote_so _ c.if-present.true c.put_with_digits.ensures
+returns-then-present c = wrote_so _ _ _ _ _ c.if-present.true c.put_with_digits.ensures
 
 pub returns-else-present : goal.returns-else-present
-returns-else-present c = wrote_not _ c.if-present.false (wrote_none _)
+returns-else-present c = wrote_not _ _ _ _ _ c.if-present.false (wrote_none _)

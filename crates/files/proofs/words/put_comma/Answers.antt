@@ -8,6 +8,6 @@ pub returns : goal.returns
 unfolding comma_text
 returns c =
     elim c.if-before-eq0.branch [
-      | then-before-eq0 w ↦ wrote_yes _ w.if-before-eq0.true (wrote_as (ap (λ (x : ℕ). x ∷ []) w.put-is) c.put.ensures)
-      | else-before-eq0 w ↦ wrote_no _ w.if-before-eq0.false (wrote_as (ap (λ (x : ℕ). x ∷ []) w.put-is) c.put.ensures)
+      | then-before-eq0 w ↦ wrote_yes _ _ _ _ _ _ w.if-before-eq0.true (wrote_as (ap (λ (x : ℕ). x ∷ []) w.put-is) c.put.ensures)
+      | else-before-eq0 w ↦ wrote_no _ _ _ _ _ _ w.if-before-eq0.false (wrote_as (ap (λ (x : ℕ). x ∷ []) w.put-is) c.put.ensures)
     ]

@@ -4,8 +4,8 @@ use Rattle.files.proofs.words.put_unless_zero.Goals as goal
 
 pub returns-then-n-ne0 : goal.returns-then-n-ne0
 unfolding unless_zero
-returns-then-n-ne0 c = wrote_no _ c.if-n-ne0.true c.numbered.ensures
+returns-then-n-ne0 c = wrote_no _ _ _ _ _ _ c.if-n-ne0.true c.numbered.ensures
 
 pub returns-else-n-ne0 : goal.returns-else-n-ne0
 unfolding unless_zero
-returns-else-n-ne0 c = wrote_yes _ c.if-n-ne0.false (wrote_none _)
+returns-else-n-ne0 c = wrote_yes _ _ _ _ _ _ c.if-n-ne0.false (wrote_none _)

@@ -6,4 +6,4 @@ use Rattle.wire.proofs.writer.put_error.Goals as goal
 
 pub returns : goal.returns
 unfolding error_text id_text code_text
-returns c = element_wrote 163 (omega arith) c.open-body.ensures.put c.open-body.ensures.place (wrote_after c.put_code.ensures c.put_id.ensures) c.close.ensures.same c.close.ensures.bytes c.close.ensures.place
+returns c = element_wrote 163 (omega arith) c.open-body.ensures (wrote_after c.put_code.ensures c.put_id.ensures) c.close.ensures

@@ -7,4 +7,4 @@ use Rattle.wire.proofs.writer.put_held.Goals as goal
 
 pub returns : goal.returns
 unfolding held_text code_text seq_text element_text
-returns c = element_wrote 48 (let p = parts_most c.args.c in omega arith) c.open-body.ensures.put c.open-body.ensures.place (wrote_after c.put_seq.ensures c.put_code.ensures) c.close.ensures.same c.close.ensures.bytes c.close.ensures.place
+returns c = element_wrote 48 (let p = parts_most c.args.c in omega arith) c.open-body.ensures (wrote_after c.put_seq.ensures c.put_code.ensures) c.close.ensures

@@ -5,4 +5,4 @@ use Rattle.wire.proofs.Places.{component_most}
 use Rattle.wire.proofs.writer.put_parameter.Goals as goal
 
 pub returns : goal.returns
-returns c = wrote_as (parameter_is c.args.c) (element_wrote 50 (let p = component_most c.args.c in omega arith) c.open-body.ensures.put c.open-body.ensures.place (wrote_after c.put_component.ensures c.put.ensures) c.close.ensures.same c.close.ensures.bytes c.close.ensures.place)
+returns c = wrote_as (parameter_is c.args.c) (element_wrote 50 (let p = component_most c.args.c in omega arith) c.open-body.ensures (wrote_after c.put_component.ensures c.put.ensures) c.close.ensures)

@@ -6,7 +6,7 @@ use Rattle.wire.proofs.writer.put_party.Goals as goal
 
 pub returns-then-present : goal.returns-then-present
 unfolding if_so
-returns-then-present c = rw c.if-present.true (element_wrote 129 (let e = number_length c.args.n in omega arith) c.open-body.ensures.put c.open-body.ensures.place (c.put_number.ensures) c.close.ensures.same c.close.ensures.bytes c.close.ensures.place)
+returns-then-present c = rw c.if-present.true (element_wrote 129 (let e = number_length c.args.n in omega arith) c.open-body.ensures c.put_number.ensures c.close.ensures)
 
 pub returns-else-present : goal.returns-else-present
 unfolding if_so

@@ -7,4 +7,4 @@ use Rattle.wire.proofs.writer.put_reject.Goals as goal
 
 pub returns : goal.returns
 unfolding reject_text
-returns c = element_wrote 164 (let p = rejected_most c.args.c.id in let e = length-append (rejected_text c.args.c.id) (128 ∷ 1 ∷ 0 ∷ []) in omega arith) c.open-body.ensures.put c.open-body.ensures.place (wrote_after c.word.ensures c.put_rejected.ensures) c.close.ensures.same c.close.ensures.bytes c.close.ensures.place
+returns c = element_wrote 164 (let p = rejected_most c.args.c.id in let e = length-append (rejected_text c.args.c.id) (128 ∷ 1 ∷ 0 ∷ []) in omega arith) c.open-body.ensures (wrote_after c.word.ensures c.put_rejected.ensures) c.close.ensures

@@ -4,8 +4,8 @@ use Rattle.wire.proofs.writer.put_rejected.Goals as goal
 
 pub returns-then-id-eq256 : goal.returns-then-id-eq256
 unfolding rejected_text
-returns-then-id-eq256 c = wrote_yes _ c.if-id-eq256.true c.word.ensures
+returns-then-id-eq256 c = wrote_yes _ _ _ _ _ _ c.if-id-eq256.true c.word.ensures
 
 pub returns-else-id-eq256 : goal.returns-else-id-eq256
 unfolding rejected_text
-returns-else-id-eq256 c = wrote_no _ c.if-id-eq256.false c.put_id.ensures
+returns-else-id-eq256 c = wrote_no _ _ _ _ _ _ c.if-id-eq256.false c.put_id.ensures

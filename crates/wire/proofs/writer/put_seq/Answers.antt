@@ -6,4 +6,4 @@ use Rattle.wire.proofs.writer.put_seq.Goals as goal
 
 pub returns : goal.returns
 unfolding seq_text
-returns c = element_wrote 48 (let p = parts_most c.args.c in omega arith) c.open-body.ensures.put c.open-body.ensures.place (c.put_parts.ensures) c.close.ensures.same c.close.ensures.bytes c.close.ensures.place
+returns c = element_wrote 48 (let p = parts_most c.args.c in omega arith) c.open-body.ensures c.put_parts.ensures c.close.ensures

@@ -1,4 +1,4 @@
-use Rattle.std.proofs.Common.{refl, ◌∙◌, arith, rules}
+use Rattle.std.proofs.Common.{refl, ◌∙◌, rules}
 use Rattle.wireline.proofs.Octets.{reading_none, reading_done, reading_odd, reading_other, reading_blank, reading_half, reading_octet}
 use Rattle.wireline.proofs.hex.octets.Goals as goal
 use Rattle.wireline.proofs.hex.octets.Goals.{in-Blank-default, in-Digit-None, in-Digit-Some}

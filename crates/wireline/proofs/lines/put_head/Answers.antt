@@ -5,16 +5,16 @@ use Rattle.wireline.proofs.lines.put_head.Goals as goal
 
 pub returns-in-1 : goal.returns-in-1
 unfolding head_text
-returns-in-1 c = wrote_yes _ (omega arith) c.put_with_operation.ensures
+returns-in-1 c = wrote_yes _ _ _ _ _ _ (omega arith) c.put_with_operation.ensures
 
 pub returns-in-2 : goal.returns-in-2
 unfolding head_text
-returns-in-2 c = wrote_no _ (λ e. omega arith) (wrote_yes _ (omega arith) c.put_with_operation-in-2.ensures)
+returns-in-2 c = wrote_no _ _ _ _ _ _ (λ e. omega arith) (wrote_yes _ _ _ _ _ _ (omega arith) c.put_with_operation-in-2.ensures)
 
 pub returns-in-3 : goal.returns-in-3
 unfolding head_text
-returns-in-3 c = wrote_no _ (λ e. omega arith) (wrote_no _ (λ e. omega arith) (wrote_yes _ (omega arith) (rw c.from.ensures at c.numbered.ensures)))
+returns-in-3 c = wrote_no _ _ _ _ _ _ (λ e. omega arith) (wrote_no _ _ _ _ _ _ (λ e. omega arith) (wrote_yes _ _ _ _ _ _ (omega arith) (rw c.from.ensures at c.numbered.ensures)))
 
 pub returns-in_default : goal.returns-in_default
 unfolding head_text
-returns-in_default c = wrote_no _ (λ e. omega arith) (wrote_no _ (λ e. omega arith) (wrote_no _ (λ e. omega arith) c.word.ensures))
+returns-in_default c = wrote_no _ _ _ _ _ _ (λ e. omega arith) (wrote_no _ _ _ _ _ _ (λ e. omega arith) (wrote_no _ _ _ _ _ _ (λ e. omega arith) c.word.ensures))
