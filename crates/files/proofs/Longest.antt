@@ -2,7 +2,7 @@
 -- Assumes nothing.
 use Rattle.std.proofs.Common.{ℕ, ◌+◌, ◌%◌, ◌≤◌, Bool, List, [], ◌++◌, length, arith, length-append, leb-true}
 use Rattle.text.specs.Choose.{if_lt, if_eq, if_so}
-use Rattle.text.specs.Text.{ascii, last_digits, decimal, numbered}
+use Rattle.text.specs.Text.{ascii, last_digits, decimal, value_text, numbered}
 use Rattle.text.proofs.Cases.{both_so, both_lt, both_eq}
 use Rattle.text.proofs.Ends.{digits_length}
 use Rattle.text.proofs.Numbers.{by_most, count_most}
@@ -19,7 +19,7 @@ use Rattle.files.specs.Bytes.{part}
 use Rattle.files.specs.declared.Where.{Where}
 use Rattle.files.specs.declared.Where.TheVariants.{Plain, Slot}
 use Rattle.files.specs.Messages.{operation_text, text_if, sign_text, number_text, with_digits, parts_text}
-use Rattle.files.specs.Words.{code_word, digits_word, value_text, counted_word, number_word, role_word, comma_text, flag_text, flags_text}
+use Rattle.files.specs.Words.{code_word, digits_word, counted_word, number_word, role_word, comma_text, flag_text, flags_text}
 use Rattle.files.specs.Words.{flags_word, opening_words, asked_word, ask_words, name_word, operation_word, with_operation_word, unless_zero}
 use Rattle.files.specs.Words.{reject_words, unknown_words, component_words, with_number, values_words, message_words, told_word, access_words}
 use Rattle.files.specs.Words.{event_words, where_words, entry_words}
