@@ -10,7 +10,10 @@ use crate::frames::{frame, plain_frame};
 use crate::{Frame, Record, Unreadable, Where};
 use rows::{ABSENT, Component, Event, Message, Nature, Number};
 
+// Kept: the bounds of a place are clauses, here and below: it comes from a slice's length, and a type of it would be built at each field.
+
 // The count byte's two halves. Its top bit is read here alone, and written in write.rt alone.
+// Kept: functions with names, and component_of below: a From would not say which of the numbers that a record has is meant.
 #[tactic(auto, using(text::proofs::Cases::cases), unfolding(crate::specs::Bodies::nature_of))]
 pub fn nature_of(byte: u8) -> Nature
     ensures { result ≡ nature_of byte }
@@ -187,6 +190,7 @@ pub fn read_at(s: &[u8], at: usize) -> Option<Result<Record, Unreadable>>
 }
 
 // The same where plain records alone may stand.
+// Kept: beside read_at, from which it differs by one framing: one for both would be lent that as a closure, and be longer.
 #[tactic(auto, using(text::proofs::Cases::cases, crate::proofs::Records::plain_read_as), unfolding(crate::specs::Bodies::plain_at))]
 pub fn plain_at(s: &[u8], at: usize) -> Option<Result<Record, Unreadable>>
     ensures { result ≡ plain_at s.now at }

@@ -2,8 +2,7 @@
 ghost use Rattle.std.specs.Prelude.{◌≡◌, ◌+◌, ◌^◌, ◌<◌, length};
 ghost use Rattle.files.specs.Bytes.{byte_at, le_at};
 
-// Kept: a test and an index. By `s.get(i).copied().unwrap_or(0)` a listing counts 1 to 4 instructions more in a hundred (of messages
-// 2,775,425 for 2,673,953).
+// Kept: a test and an index: by `s.get(i)` a listing of messages counts 3.8 % more, and it is not so far below the bar, twice plain C's.
 pub(crate) fn byte(s: &[u8], i: usize) -> u8
     ensures { result ≡ byte_at s.now i }
 {
@@ -11,8 +10,7 @@ pub(crate) fn byte(s: &[u8], i: usize) -> u8
 }
 
 // Bytes that are there: no test of each, so that a field is read at once.
-// Kept: a function for each width, here and below. One with the width as a parameter, whose bytes `from_le_bytes` takes, was proved, and a
-// listing then counts 3 to 7 instructions more in a hundred (of messages 2,902,198 for 2,724,622).
+// Kept: a function for each width: by one with `from_le_bytes` a listing of messages counts 6.5 % more, and it is not so far below the bar.
 #[tactic(auto, unfolding(crate::specs::Bytes::le_at))]
 fn two(s: &[u8], i: usize) -> u32
     requires { i + 1 < length s.now }

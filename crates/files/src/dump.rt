@@ -43,6 +43,7 @@ fn put_place(page: &mut Page<'_>, ordinal: u32, found: Result<Record, Unreadable
 }
 
 // The whole dump.
+// Kept: `longest` is a clause, here and in listing.rt: it bounds counts and places, and a type for it would be built for three calls alone.
 fn write(page: &mut Page<'_>, file: &[u8])
     requires { length file.now ≤ longest }
     ensures { Wrote (dump_of file.now) page.old page.new }

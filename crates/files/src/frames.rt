@@ -40,6 +40,8 @@ pub(crate) fn length_of(kind: u32, parts: u32) -> u32
     }
 }
 
+// Kept: here and below the bounds of a place are clauses: it comes from a slice's length, and a type of it would be built at each field.
+
 // A plain record, decided on numbers alone: the file's length, the place, the record's length and kind, and the length that the kind has.
 #[tactic(auto, using(text::proofs::Cases::cases), unfolding(crate::specs::Frames::plain_of))]
 fn plain_of(n: usize, at: usize, len: u32, kind: u32, want: u32) -> Result<Frame, Unreadable>

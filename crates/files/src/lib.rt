@@ -50,6 +50,7 @@ pub enum Unreadable {
 }
 
 // A record's frame: where it acts, the kind of its event and the place after it.
+// Kept: a number for the kind, here, in frames.rt and in bodies.rt: `length_of`, `plain_of` and `event_at` of the definitions take it.
 #[derive(Clone, Copy)]
 pub struct Frame {
     pub acts: Where,

@@ -1,6 +1,5 @@
 // The lines of a listing: a record's, an action's, the last.
-// Kept: each text is put by a function and no type has a Display, which could not promise `Wrote`: the text in a lent buffer as far as it
-// goes, and the place after all of it. So it is in messages.rt and words.rt too.
+// Kept: here and in messages.rt, words.rt and dump.rt a text is put by a function: a Display promises its text on Ok alone, `Wrote` always.
 ghost use Rattle.text.specs.Page.{Wrote};
 ghost use Rattle.files.specs.Lines.{phase_text, rev_text, stand_text, meters_text, slot_text, line_text, numbered_line, action_text, actions_text};
 ghost use Rattle.files.specs.Lines.{record_text};
@@ -10,8 +9,7 @@ use meters::Meters;
 use rows::{APPLIED, Act, Call, Note, Outcome, Phase, RevState, Stand};
 use text::Page;
 
-// Kept: an arm for each word, here and in put_rev: its length is known where it is put, which takes 29 instructions less than one call for a
-// word that a function gives. Each line has two of them: they are 6 % of a listing of expiries.
+// Kept: an arm for each word, here and in put_rev: it is as plain as a function of words and a call.
 fn put_phase(page: &mut Page<'_>, phase: Phase)
     ensures { Wrote (phase_text phase) page.old page.new }
 {
@@ -55,7 +53,7 @@ fn put_meters(page: &mut Page<'_>, m: Meters)
 }
 
 // The slot, where slots are shown.
-// Kept: no Option of a slot, here and in put_line and put_record: whether slots are shown is one answer for a whole listing.
+// Kept: a bool beside the slot, here and in put_line and put_record: `slot_text`, `line_text` and `record_text` (Lines.antt) take both.
 fn put_slot(page: &mut Page<'_>, slots: bool, slot: u32)
     ensures { Wrote (slot_text slots slot) page.old page.new }
 {
@@ -70,7 +68,7 @@ fn put_line(page: &mut Page<'_>, ordinal: u32, slots: bool, slot: u32, number: u
 {
     page.decimal(ordinal);
     put_slot(page, slots, slot);
-    page.numbered(b" ", number as u32);
+    page.numbered(b" ", u32::from(number));
     put_stand(page, call.stand);
     put_meters(page, call.meters);
     page.put(b'\n');
@@ -94,8 +92,8 @@ fn put_action(page: &mut Page<'_>, a: Act, m: Note)
         Act::NotifyAccepted => page.word(b"> NOTIFY ACCEPTED\n"),
         Act::AccessSetup => page.word(b"> ACCESS SETUP\n"),
         Act::AccessAsk => page.word(b"> ACCESS ASK\n"),
-        Act::AccessError => put_numbered_line(page, b"> ACCESS ERROR ", m.error as u32),
-        Act::AccessRel => put_numbered_line(page, b"> ACCESS REL ", m.cause as u32),
+        Act::AccessError => put_numbered_line(page, b"> ACCESS ERROR ", u32::from(m.error)),
+        Act::AccessRel => put_numbered_line(page, b"> ACCESS REL ", u32::from(m.cause)),
         Act::ChargeCalling => page.word(b"> CHARGE CALLING\n"),
         Act::ChargeCalled => page.word(b"> CHARGE CALLED\n"),
         Act::Stop => page.word(b"> STOP\n"),

@@ -35,14 +35,13 @@ fn put_component(page: &mut Page<'_>, component: Component)
     match component {
         Component::Invoke(operation) => put_with_operation(page, b" INVOKE", operation),
         Component::Result(operation) => put_with_operation(page, b" RESULT", operation),
-        Component::Error(n) => page.numbered(b" ERROR ", n as u32),
+        Component::Error(n) => page.numbered(b" ERROR ", u32::from(n)),
         Component::Absent(_) | Component::Reject(_) | Component::Unknown(_, _) => {}
     }
 }
 
 // A word where its part is present.
-// Kept: a function for each thing that a part may have, a word, a word and digits, or seconds (put_digits_if, put_duration_if, and
-// put_number_if of words.rt and write.rt): each is one `if`, and one for all would be lent what it puts as a closure at each call.
+// Kept: a function for what a part may have, here, in words.rt and in write.rt: one for all would be lent a closure at each call.
 pub(crate) fn put_if(page: &mut Page<'_>, present: bool, word: &[u8])
     ensures { Wrote (if_so present word.now []) page.old page.new }
 {
@@ -95,6 +94,7 @@ pub(crate) fn put_duration_if(page: &mut Page<'_>, present: bool, seconds: u32)
 }
 
 // The parts that are words alone.
+// Kept: the 1 of the first, as each other has its weight: `parts_text` of the definitions has them so.
 pub(crate) fn put_parts(page: &mut Page<'_>, parts: u8)
     ensures { Wrote (parts_text parts) page.old page.new }
 {
@@ -134,6 +134,6 @@ pub(crate) fn put_sent(page: &mut Page<'_>, name: &[u8], m: Note)
 pub(crate) fn put_released(page: &mut Page<'_>, m: Note)
     ensures { Wrote (released_text m) page.old page.new }
 {
-    page.numbered(b"> REL ", m.cause as u32);
+    page.numbered(b"> REL ", u32::from(m.cause));
     put_carried(page, m);
 }

@@ -19,7 +19,7 @@ use text::Page;
 fn put_code(page: &mut Page<'_>, n: u8)
     ensures { Wrote (code_word n) page.old page.new }
 {
-    page.numbered(b" ", n as u32);
+    page.numbered(b" ", u32::from(n));
 }
 
 // A telephone number in range: its digits, or that there is none.
@@ -39,7 +39,7 @@ fn put_counted_word(page: &mut Page<'_>, n: Number)
 {
     page.put(b' ');
     put_sign(page, n.nature);
-    page.decimal(n.count as u32);
+    page.decimal(u32::from(n.count));
     page.put(b':');
     page.value(n.value);
 }
@@ -81,6 +81,7 @@ fn put_flag(page: &mut Page<'_>, present: bool, before: u8, word: &[u8])
     }
 }
 
+// Kept: the 1 of the first, as each other has its weight: `flags_text` of the definitions has them so.
 fn put_set_flags(page: &mut Page<'_>, flags: u8)
     ensures { Wrote (flags_text flags) page.old page.new }
 {
@@ -142,7 +143,7 @@ fn put_name(page: &mut Page<'_>, kind: u8)
         3 => page.word(b" CON"),
         4 => page.word(b" REL"),
         5 => page.word(b" FAC"),
-        _ => page.numbered(b" MESSAGE ", kind as u32),
+        _ => page.numbered(b" MESSAGE ", u32::from(kind)),
     }
 }
 
@@ -167,7 +168,7 @@ fn put_unless_zero(page: &mut Page<'_>, word: &[u8], n: u8)
     ensures { Wrote (unless_zero word.now n) page.old page.new }
 {
     if n != 0 {
-        page.numbered(word, n as u32);
+        page.numbered(word, u32::from(n));
     }
 }
 
@@ -181,7 +182,7 @@ fn put_reject(page: &mut Page<'_>, n: u8)
 fn put_unknown(page: &mut Page<'_>, code: u8, n: u8)
     ensures { Wrote (unknown_words code n) page.old page.new }
 {
-    page.numbered(b" COMPONENT ", code as u32);
+    page.numbered(b" COMPONENT ", u32::from(code));
     put_code(page, n);
 }
 
@@ -192,7 +193,7 @@ fn put_component_words(page: &mut Page<'_>, component: Component)
         Component::Absent(n) => put_unless_zero(page, b" NONE ", n),
         Component::Invoke(operation) => put_with_operation_word(page, b" INVOKE", operation),
         Component::Result(operation) => put_with_operation_word(page, b" RESULT", operation),
-        Component::Error(n) => page.numbered(b" ERROR ", n as u32),
+        Component::Error(n) => page.numbered(b" ERROR ", u32::from(n)),
         Component::Reject(n) => put_reject(page, n),
         Component::Unknown(code, n) => put_unknown(page, code, n),
     }
@@ -275,7 +276,7 @@ fn put_where(page: &mut Page<'_>, w: Where)
 {
     match w {
         Where::Plain => {}
-        Where::Slot(slot) => page.numbered(b" SLOT ", slot as u32),
+        Where::Slot(slot) => page.numbered(b" SLOT ", u32::from(slot)),
     }
 }
 

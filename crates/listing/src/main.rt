@@ -3,14 +3,22 @@
 
 use std::io;
 
+// One byte more than a file may have, so that a longer input is noticed.
+const FILE: usize = 65537;
+
+// Room for a listing.
+const ROOM: usize = 65536;
+
+// What rev_listing answers for a longer file, or a longer listing.
+// Kept: it gives a host in C this number too (rev.h).
+const TOO_LONG: usize = 8;
+
 fn main(rt: HostRuntime) -> io::Result<()> {
-    // one byte more than a file may have, so that a longer input is noticed
-    let mut file = [0u8; 65537];
+    let mut file = input::room::<FILE>();
     let n = input::fill(&rt, &mut file)?;
-    let mut out = [0u8; 65536];
+    let mut out = input::room::<ROOM>();
     match files::rev_listing(&file[..n], &mut out) {
-        // Kept: rev_listing gives a host in C this number too (rev.h).
-        8 => rt.write_all(b"REFUSED 8\n"),
+        TOO_LONG => rt.write_all(b"REFUSED 8\n"),
         k => rt.write_all(&out[..k]),
     }
 }

@@ -13,6 +13,8 @@ pub(crate) fn numeric(w: &[u8]) -> bool {
     !w.is_empty() && w.iter().all(|b| b.is_ascii_digit())
 }
 
+// Kept: code and part, here and in wireline: in pieces, where each has a definition and an edit, they would be longer than twice here.
+
 // As a number of 8 bits, or 0.
 fn code(w: &[u8]) -> u8 {
     u8::try_from(value(w)).unwrap_or(0)
@@ -23,6 +25,7 @@ fn seconds(w: &[u8]) -> u32 {
     u32::try_from(value(w)).unwrap_or(0)
 }
 
+// Kept: beside wireline's digits(), whose Number is another type, and says its nature in its count.
 // The digits of a number, or its count and value. A record has seven bits for a count: a greater one makes a line unknown.
 fn digits(nature: Nature, w: &[u8]) -> Number {
     match w.iter().position(|b| *b == b':') {

@@ -1,4 +1,5 @@
 // A component's line: its kind, its operation or error, its identifier, and its parts in bit order.
+// Kept: a text is put by a function, here, in answers.rt and in hex.rt: a Display promises its text on Ok alone, `Wrote` always.
 ghost use Rattle.std.specs.Prelude.{[], ◌++◌};
 ghost use Rattle.text.specs.Choose.{if_so};
 ghost use Rattle.text.specs.Page.{Wrote};
@@ -11,6 +12,7 @@ use text::Page;
 use wire::{Component, Number};
 
 // The forms of a line's numbers, where each is said by its digits.
+// Kept: a number for the forms, here and in guess.rt: `line_in` and `Right` of the definitions take it.
 pub(crate) const DIGITS: u8 = 0;
 
 // A word where its part is present.

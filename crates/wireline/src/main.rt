@@ -64,6 +64,7 @@ fn too_long(rt: &impl Print) -> io::Result<()> {
 }
 
 // What a page says. One that its room did not hold would be too long, but none is.
+// Kept: `get(..n)` here, in answer_octets and in tell_front: each has its own next step, and one for all would be lent it as a closure.
 fn tell(rt: &impl Print, page: &Page<'_>) -> io::Result<()> {
     match page.out.get(..page.at) {
         Some(answer) => rt.write_all(answer),

@@ -25,4 +25,4 @@ returns-in-5 c = wrote_by name_word _ _ _ _ c.in-5.is c.word-in-5.ensures
 
 pub returns-in_default : goal.returns-in_default
 unfolding name_word
-returns-in_default c = search writes depth 20
+returns-in_default c = let w = rw c.from.ensures at c.numbered.ensures in search writes depth 20

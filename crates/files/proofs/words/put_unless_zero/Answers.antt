@@ -4,7 +4,7 @@ use Rattle.files.proofs.words.put_unless_zero.Goals as goal
 
 pub returns-then-n-ne0 : goal.returns-then-n-ne0
 unfolding unless_zero
-returns-then-n-ne0 c = wrote_no _ _ _ _ _ _ c.if-n-ne0.true c.numbered.ensures
+returns-then-n-ne0 c = wrote_no _ _ _ _ _ _ c.if-n-ne0.true (rw c.from.ensures at c.numbered.ensures)
 
 pub returns-else-n-ne0 : goal.returns-else-n-ne0
 unfolding unless_zero

@@ -5,7 +5,7 @@ use Rattle.files.proofs.Texts.{put_so, put_not}
 use Rattle.files.proofs.write.put_duration_if.Goals as goal
 
 pub returns-then-present : goal.returns-then-present
-returns-then-present c = put_so _ _ _ _ _ _ _ c.if-present.true c.put_4.ensures.put
+returns-then-present c = put_so _ _ _ _ _ _ _ c.if-present.true (rw c.from.ensures at c.put_4.ensures.put)
 
 pub returns-else-present : goal.returns-else-present
 returns-else-present c = put_not _ _ _ _ _ _ _ c.if-present.false (put_none _ _)

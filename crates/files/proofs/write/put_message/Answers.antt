@@ -13,4 +13,4 @@ pub put_carried-requires : goal.put_carried-requires
 put_carried-requires c = search (message_as, arith, message_length, rules)
 
 pub returns : goal.returns
-returns c = search (message_as, arith, rules)
+returns c = let e = rw c.from.ensures at c.length_of-len.ensures in search (message_as, arith, rules)
