@@ -19,7 +19,7 @@ pub const NO_SUCH_SLOT: u8 = 19;
 const NONE_FREE: u8 = 21;
 
 // The number of an answer to the question for the lowest free slot: 0 beside a slot, or 21.
-// Kept: a number and a value beside it are what document 01 asks of an answer; `nowhere_exactly` speaks of the number (here and below).
+// Kept: a number and a value beside it, here and below: 02 #107 names 21 ("none free"), and `nowhere_exactly` speaks of the number.
 pub fn free_number(free: Option<usize>) -> u8
     ensures { result ≡ free_number free }
 {

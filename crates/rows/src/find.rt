@@ -1,5 +1,6 @@
 // FIND: the row for an event, by role, phase, REV state and what the event is. One table for each place that 01 allows;
 // none of them sees the call. In a table a line is a kind of event and what is asked of it: the first that fits has the row.
+// Kept: tables of the same kinds with other rows stay apart, since each is a table of docs/ROWS.md with its own definition (Find.antt).
 ghost use Rattle.std.specs.Prelude.{◌≡◌};
 ghost use Rattle.rows.specs.Find.{vacant_of, originating_null_of, originating_setup_idle_of, wait_setup_of, originating_wait_answer_of};
 ghost use Rattle.rows.specs.Find.{originating_answered_idle_of, wait_active_of, active_of, destination_null_of, destination_setup_idle_of};

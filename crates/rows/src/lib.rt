@@ -74,6 +74,7 @@ pub const ABSENT: Number = Number {
 };
 
 // A message's component, by 01's code: 0 to 4, with the byte that follows (operation or error number, else 0).
+// Kept: the byte after each code, since a record may have any there: `item_ok` judges it, and `three_exactly` has the answer 3.
 #[derive(Clone, Copy)]
 pub enum Component {
     Absent(u8),
@@ -99,6 +100,7 @@ pub struct Message {
 
 // What the actions of an answer carry. error: told to the own access. cause: of a release, to the own access or in a REL. The rest is
 // the message's. No row sends two messages, tells two errors or gives two causes, so one note serves.
+// Kept: error, cause and parts as numbers with 0 for none, as `note_of` (Perform.antt) has them of a Plan.
 #[derive(Clone, Copy)]
 pub struct Note {
     pub error: u8,
@@ -165,7 +167,7 @@ pub enum Kind {
 }
 
 // What the own user asks for: a basic call, or reverse charging by case A, B or C.
-// Kept: here, in Heard and in Told a bool for each test of the tables, for the tests overlap: reversal is casea, caseb or casec.
+// Kept: here, in Heard and in Told a bool for each test, which the tables of Find.antt and `asked_of`, `heard_of`, `told_of` ask by name.
 #[derive(Clone, Copy)]
 pub struct Asked {
     pub basic: bool,
@@ -355,13 +357,14 @@ pub struct Terms {
     pub calling: bool,
     pub duration: bool,
     // the error received, and whether it is REV's; the cause received
+    // Kept: `correct` beside `error`, as `setup_error` and `wait_error` of Rows.antt take them; so do `setup_refused` and `active_refused`.
     pub correct: Correctness,
     pub error: u8,
     pub cause: u8,
 }
 
 // What a row does. number: 0, or the refusal.
-// Kept: the number, for of all rows only eight may lack a part (`needs`), and each plan of the others would stand in a Some.
+// Kept: the number, which `perform_of` reads; only eight plans may lack a part (`needs`): the others would stand in a Some.
 // Kept: the four acts have the form that they have in an Outcome, and the definition `given_of` copies them into it.
 #[derive(Clone, Copy)]
 pub struct Plan {
@@ -469,8 +472,8 @@ pub struct Call {
 // The answer to an event. The actions stand in order, and the note has what they carry; Nothing among them is none, and a host
 // skips it. A refusal has the call as it stood and no action. Where the number is 3, field is the ordinal of the event's first field that is
 // out of its range, from 1 as they stand in a record's body; else it is 0.
-// Kept: the numbers are those that document 01 gives back, and theorems speak of them (`three_tells`, `nine_exactly`, `else_no_field`);
-// four fields for the acts, since `NothingDone`, `AsFresh` and `deeds_of` (Promises.antt, Step.antt) name each.
+// Kept: the numbers are those that document 01 gives back, and theorems speak of them (`three_tells`, `nine_exactly`, `else_no_field`).
+// Kept: four fields for the acts, since `NothingDone`, `AsFresh` and `deeds_of` (Promises.antt, Step.antt) name each.
 #[derive(Clone, Copy)]
 pub struct Outcome {
     pub number: u8,

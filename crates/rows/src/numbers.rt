@@ -1,6 +1,6 @@
 // The numbers of the papers, each behind one name. specs/Numbers.antt has the same numbers; here the parts stand added up as they are
 // sent.
-// Kept: records carry these numbers, hosts are given them back, and the theorems speak of them (`three_exactly`, `never_given`).
+// Kept: numbers, here and where a function answers one: records carry them, hosts are given them back (`three_exactly`, `never_given`).
 
 ghost use Rattle.std.specs.Prelude.{◌≡◌, ◌<◌};
 ghost use Rattle.rows.specs.Read.{bit};

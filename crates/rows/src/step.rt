@@ -102,6 +102,7 @@ impl Outcome {
 }
 
 // 17 or 20, or None where the event comes in its time.
+// Kept: the number itself, as `refusal` and `step_of` (Step.antt) have it and an Outcome gives it.
 fn untimely(phase: Phase, e: Event) -> Option<u8>
     ensures { result ≡ refusal (untimely_of phase (is_opening e)) }
 {

@@ -140,7 +140,7 @@ fn has_ever(role: Role, event: Cue) -> bool
 }
 
 // The number for an event that found no row in this phase.
-// Kept: the number itself, as a host in C is given it (rev.h) and `why_of` has it.
+// Kept: the number itself, as `why_of` has it and an Outcome gives it.
 pub(crate) fn why(role: Role, phase: Phase, event: Cue) -> u8
     ensures { result ≡ why_of role phase event }
 {
