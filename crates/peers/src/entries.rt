@@ -4,25 +4,27 @@ ghost use Rattle.text.specs.Text.{Put};
 ghost use Rattle.files.specs.Bodies.{record_of};
 ghost use Rattle.rows.specs.declared.Event.TheVariants.{Received};
 ghost use Rattle.wire.specs.Parameters.{walk_of, holds};
-ghost use Rattle.peers.specs.Messages.{no_component};
+ghost use Rattle.peers.specs.Messages.{no_component, heard_of};
 ghost use Rattle.peers.specs.Entries.{entry_of, carrier_bad, ended_of, Keeps, KeptWithin};
 
 use crate::Refusal;
 use crate::messages::{heard, none};
-use rows::Message;
+use wire::Component;
 
-fn entry_size(m: Message) -> usize
-    ensures { (result ≡ 2 + length (record_of (Received m))) × (result ≤ 33) }
+// How long the entry of a component is. (Here and in put_entry the message is made apart from `keep`, whose stack it would be on for each
+// component of a parameter.)
+fn entry_size(message: u8, cause: u8, c: Component) -> usize
+    ensures { (result ≡ 2 + length (record_of (Received (heard_of message cause c)))) × (result ≤ 33) }
 {
-    2 + files::message_size(m.parts)
+    2 + files::message_size(heard(message, cause, c).parts)
 }
 
-fn put_entry(out: &mut [u8], at: usize, id: u16, m: Message) -> usize
-    requires { at + (2 + length (record_of (Received m))) ≤ length out.old }
-    ensures { Put out.old at (entry_of id (Received m)) out.new result }
+fn put_entry(out: &mut [u8], at: usize, id: u16, message: u8, cause: u8, c: Component) -> usize
+    requires { at + (2 + length (record_of (Received (heard_of message cause c)))) ≤ length out.old }
+    ensures { Put out.old at (entry_of id (Received (heard_of message cause c))) out.new result }
 {
     let to = files::put_2(out, at, u64::from(id));
-    let n = files::put_message(&mut out[to..], m);
+    let n = files::put_message(&mut out[to..], heard(message, cause, c));
     to + n
 }
 
@@ -48,9 +50,8 @@ pub(crate) fn write_none(message: u8, cause: u8, out: &mut [u8]) -> Result<usize
     ensures { Keeps message cause (holds (no_component ∷ [])) out.old 0 result out.new × KeptWithin result }
 {
     let c = none();
-    let m = heard(message, cause, c);
-    let n = ended(message, cause, out.len(), entry_size(m))?;
-    put_entry(out, 0, c.id, m);
+    let n = ended(message, cause, out.len(), entry_size(message, cause, c))?;
+    put_entry(out, 0, c.id, message, cause, c);
     Ok(n)
 }
 
@@ -71,8 +72,8 @@ pub(crate) fn keep(
         return ended(message, cause, out.len(), to);
     }
     let (c, next) = wire::read_component(s, at)?;
-    let m = heard(message, cause, c);
-    let end = keep(s, next, message, cause, out, to + entry_size(m))?;
-    put_entry(out, to, c.id, m);
+    let n = entry_size(message, cause, c);
+    let end = keep(s, next, message, cause, out, to + n)?;
+    put_entry(out, to, c.id, message, cause, c);
     Ok(end)
 }
