@@ -1,5 +1,5 @@
 // The entries of a parameter's components: an identifier, and the record of the event.
-ghost use Rattle.std.specs.Prelude.{◌≡◌, ◌∷◌, [], ◌+◌, ◌*◌, ◌≤◌, length};
+ghost use Rattle.std.specs.Prelude.{◌≡◌, ◌∷◌, [], ◌+◌, ◌*◌, ◌≤◌, ◌<◌, length};
 ghost use Rattle.text.specs.Text.{Put};
 ghost use Rattle.files.specs.Bodies.{record_of};
 ghost use Rattle.rows.specs.declared.Event.TheVariants.{Received};
@@ -75,5 +75,18 @@ pub(crate) fn keep(
     let n = entry_size(message, cause, c);
     let end = keep(s, next, message, cause, out, to + n)?;
     put_entry(out, to, c.id, message, cause, c);
+    Ok(end)
+}
+
+// The same of a whole parameter, from its first component on, which mostly is the only one.
+// Kept: this step once more, apart from `keep`: called from here alone, `keep` would take all of the reader onto its stack for each component.
+pub(crate) fn keep_all(s: &[u8], message: u8, cause: u8, out: &mut [u8]) -> Result<usize, Refusal>
+    requires { (3 < length s.now) × (length s.now ≤ 257) }
+    ensures { Keeps message cause (walk_of s.now 3) out.old 0 result out.new × KeptWithin result }
+{
+    let (c, next) = wire::read_component(s, 3)?;
+    let n = entry_size(message, cause, c);
+    let end = keep(s, next, message, cause, out, n)?;
+    put_entry(out, 0, c.id, message, cause, c);
     Ok(end)
 }

@@ -10,7 +10,7 @@ ghost use Rattle.peers.specs.Entries.{given, KeptWithin, gives_of, read_gives, r
 ghost use Rattle.peers.specs.Entries.{in_record, send_gives, send_leaves, write_gives, write_leaves};
 
 use crate::Refusal;
-use crate::entries::{keep, write_none};
+use crate::entries::{keep_all, write_none};
 use crate::messages::carried;
 use crate::refusals::{given, in_record};
 use files::Unreadable;
@@ -29,7 +29,7 @@ fn read(parameter: &[u8], message: u8, cause: u8, out: &mut [u8]) -> Result<usiz
     if parameter.len() == 3 {
         write_none(message, cause, out)
     } else {
-        keep(parameter, 3, message, cause, out, 0)
+        keep_all(parameter, message, cause, out)
     }
 }
 

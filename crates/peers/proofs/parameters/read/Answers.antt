@@ -17,5 +17,5 @@ returns-then-parameter-eq3 c =
 pub returns-else-parameter-eq3 : goal.returns-else-parameter-eq3
 returns-else-parameter-eq3 c =
     let b = good_bounds _ _ c.framed.ensures.1 c.in_ok-framed.was in
-    let f = framed_good _ _ _ _ _ c.framed.ensures.0 _ _ c.in_ok-framed.was (walk_read _ _ _ _ _ _ (omega arith) c.keep.ensures.0) in
-    (f.0, f.1, c.keep.ensures.1)
+    let f = framed_good _ _ _ _ _ c.framed.ensures.0 _ _ c.in_ok-framed.was (walk_read _ _ _ _ _ _ (omega arith) c.keep_all.ensures.0) in
+    (f.0, f.1, c.keep_all.ensures.1)
