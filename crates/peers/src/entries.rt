@@ -13,18 +13,18 @@ use wire::Component;
 
 // How long the entry of a component is. (Here and in put_entry the message is made apart from `keep`, whose stack it would be on for each
 // component of a parameter.)
-fn entry_size(message: u8, cause: u8, c: Component) -> usize
-    ensures { (result ≡ 2 + length (record_of (Received (heard_of message cause c)))) × (result ≤ 33) }
+fn entry_size(message: u8, cause: u8, c: &Component) -> usize
+    ensures { (result ≡ 2 + length (record_of (Received (heard_of message cause c.now)))) × (result ≤ 33) }
 {
-    2 + files::message_size(heard(message, cause, c).parts)
+    2 + files::message_size(heard(message, cause, *c).parts)
 }
 
-fn put_entry(out: &mut [u8], at: usize, id: u16, message: u8, cause: u8, c: Component) -> usize
-    requires { at + (2 + length (record_of (Received (heard_of message cause c)))) ≤ length out.old }
-    ensures { Put out.old at (entry_of id (Received (heard_of message cause c))) out.new result }
+fn put_entry(out: &mut [u8], at: usize, id: u16, message: u8, cause: u8, c: &Component) -> usize
+    requires { at + (2 + length (record_of (Received (heard_of message cause c.now)))) ≤ length out.old }
+    ensures { Put out.old at (entry_of id (Received (heard_of message cause c.now))) out.new result }
 {
     let to = files::put_2(out, at, u64::from(id));
-    let n = files::put_message(&mut out[to..], heard(message, cause, c));
+    let n = files::put_message(&mut out[to..], heard(message, cause, *c));
     to + n
 }
 
@@ -50,8 +50,8 @@ pub(crate) fn write_none(message: u8, cause: u8, out: &mut [u8]) -> Result<usize
     ensures { Keeps message cause (holds (no_component ∷ [])) out.old 0 result out.new × KeptWithin result }
 {
     let c = none();
-    let n = ended(message, cause, out.len(), entry_size(message, cause, c))?;
-    put_entry(out, 0, c.id, message, cause, c);
+    let n = ended(message, cause, out.len(), entry_size(message, cause, &c))?;
+    put_entry(out, 0, c.id, message, cause, &c);
     Ok(n)
 }
 
@@ -72,21 +72,21 @@ pub(crate) fn keep(
         return ended(message, cause, out.len(), to);
     }
     let (c, next) = wire::read_component(s, at)?;
-    let n = entry_size(message, cause, c);
+    let n = entry_size(message, cause, &c);
     let end = keep(s, next, message, cause, out, to + n)?;
-    put_entry(out, to, c.id, message, cause, c);
+    put_entry(out, to, c.id, message, cause, &c);
     Ok(end)
 }
 
 // The same of a whole parameter, from its first component on, which mostly is the only one.
-// Kept: this step once more, apart from `keep`: called from here alone, `keep` would take all of the reader onto its stack for each component.
+// Kept: this step once more, since a reader that `keep` alone called would stand on the stack for each component (272 bytes each, 256 so).
 pub(crate) fn keep_all(s: &[u8], message: u8, cause: u8, out: &mut [u8]) -> Result<usize, Refusal>
     requires { (3 < length s.now) × (length s.now ≤ 257) }
     ensures { Keeps message cause (walk_of s.now 3) out.old 0 result out.new × KeptWithin result }
 {
     let (c, next) = wire::read_component(s, 3)?;
-    let n = entry_size(message, cause, c);
+    let n = entry_size(message, cause, &c);
     let end = keep(s, next, message, cause, out, n)?;
-    put_entry(out, 0, c.id, message, cause, c);
+    put_entry(out, 0, c.id, message, cause, &c);
     Ok(end)
 }

@@ -5,7 +5,7 @@ use Rattle.peers.proofs.entries.put_entry.Goals as goal
 
 pub put_message-n-requires : goal.put_message-n-requires
 put_message-n-requires c =
-    rw c.heard.ensures (entry_room _ _ c.args.at _ _ (heard_of c.args.message c.args.cause c.args.c) (omega arith) c.put_2-to.ensures.put c.put_2-to.ensures.value)
+    rw c.heard.ensures (entry_room _ _ c.args.at _ _ (heard_of c.args.message c.args.cause c.args.c.now) (omega arith) c.put_2-to.ensures.put c.put_2-to.ensures.value)
 
 pub returns : goal.returns
 returns c =
