@@ -65,7 +65,7 @@ fn put_number(page: &mut Page<'_>, n: Number)
     ensures { Wrote (number_text n) page.old page.new }
 {
     put_sign(page, n.nature);
-    page.digits(n.value, n.count);
+    page.digits(n.value, usize::from(n.count));
 }
 
 // A word and a number.

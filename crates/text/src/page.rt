@@ -1,6 +1,6 @@
 // A page: a lent buffer, and the place in it that is written next. A byte past the buffer's end is counted and not stored; the count stops
 // at the largest number, which no buffer reaches.
-ghost use Rattle.std.specs.Prelude.{◌≡◌, ◌∷◌, [], ◌≤◌, length};
+ghost use Rattle.std.specs.Prelude.{◌≡◌, ◌∷◌, [], ◌<◌, ◌≤◌, ◌^◌, length};
 ghost use Rattle.text.specs.Text.{last_digits, decimal, value_text, numbered};
 ghost use Rattle.text.specs.Page.{Wrote};
 
@@ -60,7 +60,7 @@ impl<'a> Page<'a> {
         if n < 10 {
             self.put(digit(n as u64));
         } else {
-            self.digits(n as u64, digits(n) as u8);
+            self.digits(n as u64, digits(n));
         }
     }
 
@@ -80,10 +80,10 @@ impl<'a> Page<'a> {
     }
 
     // The last k digits of n, zeros in front where it has fewer; the last one is put first.
-    pub fn digits(&mut self, n: u64, k: u8)
+    pub fn digits(&mut self, n: u64, k: usize)
+        requires { k < 2 ^ 63 }
         ensures { Wrote (last_digits k n) self.old self.new }
     {
-        let k = k as usize;
         if self.at < self.out.len() {
             put_digits(self.out, self.at, n, k);
         }

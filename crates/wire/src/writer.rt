@@ -5,7 +5,7 @@ ghost use Rattle.text.specs.Choose.{if_so};
 ghost use Rattle.text.specs.Text.{Put};
 ghost use Rattle.text.specs.Page.{Wrote};
 ghost use Rattle.wire.specs.Pages.{Opened, Closed};
-ghost use Rattle.wire.specs.Texts.{element_text, pair_byte, octets_of, padded_of, number_text, first_text, parties_text, last_text, parts_text, seq_text, id_text, rejected_text, code_text, invoke_text, held_text, result_text, error_text, reject_text, component_text, parameter_text, written_of, leaves_of};
+ghost use Rattle.wire.specs.Texts.{element_text, pair_byte, octets_of, padded_of, number_text, first_text, parties_text, last_text, parts_text, seq_text, id_text, rejected_text, code_text, invoke_text, held_text, result_text, error_text, reject_text, component_text, parameter_text, number_told, field_told, written_of, leaves_of};
 ghost use Rattle.wire.specs.Writable.{bad_of};
 
 use crate::writable::bad_field;
@@ -242,6 +242,30 @@ fn put_parameter(page: &mut Page<'_>, c: Component)
 }
 
 // ---- what a host is given
+
+impl Unwritten {
+    // As document 01 has it.
+    #[tactic(auto, unfolding(crate::specs::Texts::number_told))]
+    pub fn number(self) -> u8
+        ensures { result ≡ number_told self }
+    {
+        match self {
+            Unwritten::BadField(_) => 3,
+            Unwritten::NoRoom => 8,
+        }
+    }
+
+    // The ordinal that stands beside the number, 0 beside 8.
+    #[tactic(auto, unfolding(crate::specs::Texts::field_told))]
+    pub fn field(self) -> u8
+        ensures { result ≡ field_told self }
+    {
+        match self {
+            Unwritten::BadField(k) => k,
+            Unwritten::NoRoom => 0,
+        }
+    }
+}
 
 // What is given of a component's text: the first bad field of what cannot be written, then too little room; else its bytes.
 // Kept: like files' `judge`, and Unwritten like files' own: neither of the two crates rests on the other, and their clauses name their own.

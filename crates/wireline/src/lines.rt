@@ -29,7 +29,7 @@ fn put_digits(page: &mut Page<'_>, n: Number)
     ensures { Wrote (digits_text n) page.old page.new }
 {
     put_if(page, n.count / 128 == 1, b"+");
-    page.digits(n.value, n.count % 128);
+    page.digits(n.value, usize::from(n.count % 128));
 }
 
 // A number by its count and its value.

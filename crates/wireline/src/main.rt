@@ -14,7 +14,6 @@ use std::env::FillError;
 use std::io;
 use std::rt::Env;
 use text::Page;
-use wire::Unwritten;
 
 // The bytes of a component, and of a text that says them: two digits, a blank and more for each.
 const LONGEST: usize = 65536;
@@ -151,8 +150,7 @@ fn write_in(rt: &(impl Env + Print + Eprint), line: &[u8], out: &mut [u8]) -> io
     match guess::write(line, out) {
         None => eprintln!(rt; "wire: not understood: no component has this line"),
         Some(Ok(n)) => tell_front(rt, out, n),
-        Some(Err(Unwritten::BadField(_))) => rt.write_all(b"REFUSED 3\n"),
-        Some(Err(Unwritten::NoRoom)) => too_long(rt),
+        Some(Err(why)) => println!(rt; "REFUSED {}", why.number()),
     }
 }
 
