@@ -1,6 +1,6 @@
 -- An element's first bytes: its tag, its length, and where its contents begin and end.
 -- Assumes nothing.
-use Rattle.std.specs.Prelude.{List, ℕ, zero, suc, ◌+◌, ◌-◌, ◌%◌, Ok, Err}
+use Rattle.std.specs.Prelude.{List, ℕ, zero, suc, ◌+◌, ◌-◌, ◌%◌, Result, Ok, Err}
 use Rattle.text.specs.Choose.{if_lt, if_le, if_eq}
 use Rattle.wire.specs.Bytes.{byte_at, big_at}
 use Rattle.wire.specs.Answers.{Head, element}
@@ -23,6 +23,11 @@ length_place s at end = if_eq (byte_at s at % 32) 31 (tag_after s (at + 1) end) 
 -- contents of `len` bytes from `body` on; `short` where one stands past `end`
 unfoldable pub filled_of : ℕ → ℕ → ℕ → ℕ → ℕ → Head
 filled_of tag body end len short = if_lt end (body + len) (Err short) (Ok (element tag body (body + len)))
+
+-- the same of a place and a count that are measured, or of the number where they could not be
+abbrev pub spanned_of : ℕ → ℕ → ℕ → Result (ℕ × ℕ) ℕ → Head
+spanned_of tag end short (Ok (body, len)) = filled_of tag body end len short
+spanned_of tag end short (Err n) = Err n
 
 -- by the first byte of the length: below 128 it is the length; 128 is the indefinite form and 255 is reserved; else it says how many
 -- bytes the length has

@@ -4,8 +4,8 @@
 // Kept: the number alone stands in Err, as in the definitions of specs/Heads.antt, which know no place; who asks makes the Refusal.
 #![tactic(auto, unfolding(crate::specs::Heads::length_place, crate::specs::Heads::filled_of, crate::specs::Heads::length_of, crate::specs::Heads::head_from, crate::specs::Heads::head_of, text::specs::Choose::if_lt, text::specs::Choose::if_le, text::specs::Choose::if_eq, text::specs::Choose::if_so))]
 
-ghost use Rattle.std.specs.Prelude.{◌≡◌, ◌≤◌, ◌<◌};
-ghost use Rattle.wire.specs.Heads.{tag_after, length_place, filled_of, length_of, head_from, head_of};
+ghost use Rattle.std.specs.Prelude.{◌≡◌, ◌≤◌, ◌<◌, ℕ, IfOk};
+ghost use Rattle.wire.specs.Heads.{tag_after, length_place, spanned_of, length_of, head_from, head_of};
 
 use crate::Element;
 use crate::bytes::{big, byte};
@@ -38,11 +38,35 @@ fn length_place(s: &[u8], at: usize, end: usize) -> usize
     }
 }
 
-// The contents begin at `body` and have `len` bytes; none may stand past `end`.
-fn filled(tag: u8, body: usize, end: usize, len: usize, short: u8) -> Result<Element, u8>
-    requires { body ≤ end }
-    ensures { result ≡ filled_of tag body end len short }
+// Where the contents begin and how many bytes they have, by the first byte of the length, which stands before `after`. (No Element yet:
+// one that is handed on in a Result is copied with the bytes beside its tag, which takes a third more instructions for a head.)
+fn measured(s: &[u8], first: u8, after: usize, end: usize, short: u8) -> Result<(usize, usize), u8>
+    requires { after ≤ end }
+    ensures of { (tag : ℕ) → spanned_of tag end short result ≡ length_of s.now tag first after end short }
+    ensures body { IfOk result (λ m. m.0 ≤ end) }
 {
+    match first {
+        0..=127 => Ok((after, usize::from(first))),
+        128 | 255 => Err(BAD_LENGTH),
+        _ => {
+            let k = usize::from(first - 128);
+            if end - after < k {
+                Err(short)
+            } else {
+                Ok((after + k, big(s, after, k)))
+            }
+        }
+    }
+}
+
+// With the length at `place`: none of the contents may stand past `end`.
+fn headed(s: &[u8], tag: u8, place: usize, end: usize, short: u8) -> Result<Element, u8>
+    ensures { result ≡ head_from s.now tag place end short }
+{
+    if end <= place {
+        return Err(short);
+    }
+    let (body, len) = measured(s, byte(s, place), place + 1, end, short)?;
     if end - body < len {
         Err(short)
     } else {
@@ -51,43 +75,6 @@ fn filled(tag: u8, body: usize, end: usize, len: usize, short: u8) -> Result<Ele
             body,
             next: body + len,
         })
-    }
-}
-
-// By the first byte of the length, which stands before `after`.
-fn measured(
-    s: &[u8],
-    tag: u8,
-    first: u8,
-    after: usize,
-    end: usize,
-    short: u8,
-) -> Result<Element, u8>
-    requires { after ≤ end }
-    ensures { result ≡ length_of s.now tag first after end short }
-{
-    match first {
-        0..=127 => filled(tag, after, end, usize::from(first), short),
-        128 | 255 => Err(BAD_LENGTH),
-        _ => {
-            let k = usize::from(first - 128);
-            if end - after < k {
-                Err(short)
-            } else {
-                filled(tag, after + k, end, big(s, after, k), short)
-            }
-        }
-    }
-}
-
-// With the length at `place`.
-fn headed(s: &[u8], tag: u8, place: usize, end: usize, short: u8) -> Result<Element, u8>
-    ensures { result ≡ head_from s.now tag place end short }
-{
-    if end <= place {
-        Err(short)
-    } else {
-        measured(s, tag, byte(s, place), place + 1, end, short)
     }
 }
 

@@ -267,20 +267,16 @@ impl Unwritten {
     }
 }
 
-// What is given of a component's text: the first bad field of what cannot be written, then too little room; else its bytes.
+// What is given of the text of a component that can be written: its bytes, where there is room for them.
 // Kept: like files' `judge`, and Unwritten like files' own: neither of the two crates rests on the other, and their clauses name their own.
-fn give(c: Component, text: &[u8], out: &mut [u8]) -> Result<usize, Unwritten>
-    ensures { (result ≡ written_of (bad_of c) text.now out.old)
-        × (out.new ≡ leaves_of (bad_of c) text.now out.old) }
+fn give(text: &[u8], out: &mut [u8]) -> Result<usize, Unwritten>
+    ensures { (result ≡ written_of 0 text.now out.old) × (out.new ≡ leaves_of 0 text.now out.old) }
 {
-    match bad_field(c) {
-        Some(k) => Err(Unwritten::BadField(k)),
-        None if out.len() < text.len() => Err(Unwritten::NoRoom),
-        None => {
-            out[..text.len()].copy_from_slice(text);
-            Ok(text.len())
-        }
+    if out.len() < text.len() {
+        return Err(Unwritten::NoRoom);
     }
+    out[..text.len()].copy_from_slice(text);
+    Ok(text.len())
 }
 
 // The first bad field of what cannot be written, then too little room; else the component's bytes.
@@ -288,11 +284,16 @@ pub fn write_component(c: Component, out: &mut [u8]) -> Result<usize, Unwritten>
     ensures { (result ≡ written_of (bad_of c) (component_text c) out.old)
         × (out.new ≡ leaves_of (bad_of c) (component_text c) out.old) }
 {
-    let mut bytes = [0; 168];
-    let mut page = Page::new(&mut bytes);
-    put_component(&mut page, c);
-    let n = page.at;
-    give(c, &bytes[..n], out)
+    match bad_field(c) {
+        Some(k) => Err(Unwritten::BadField(k)),
+        None => {
+            let mut bytes = [0; 168];
+            let mut page = Page::new(&mut bytes);
+            put_component(&mut page, c);
+            let n = page.at;
+            give(&bytes[..n], out)
+        }
+    }
 }
 
 // The same for a whole parameter of this one component.
@@ -301,9 +302,14 @@ pub fn write_parameter(c: Component, out: &mut [u8]) -> Result<usize, Unwritten>
     ensures { (result ≡ written_of (bad_of c) (parameter_text c) out.old)
         × (out.new ≡ leaves_of (bad_of c) (parameter_text c) out.old) }
 {
-    let mut bytes = [0; 171];
-    let mut page = Page::new(&mut bytes);
-    put_parameter(&mut page, c);
-    let n = page.at;
-    give(c, &bytes[..n], out)
+    match bad_field(c) {
+        Some(k) => Err(Unwritten::BadField(k)),
+        None => {
+            let mut bytes = [0; 171];
+            let mut page = Page::new(&mut bytes);
+            put_parameter(&mut page, c);
+            let n = page.at;
+            give(&bytes[..n], out)
+        }
+    }
 }

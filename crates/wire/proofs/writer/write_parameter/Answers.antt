@@ -1,6 +1,7 @@
-use Rattle.std.proofs.Common.{List, ℕ, length, length-take-le, arith, rules, ap, sym, ◌∙◌}
+use Rattle.std.proofs.Common.{List, ℕ, length, length-take-le, arith, rules, ap, sym, refl, ◌∙◌}
+use Rattle.text.proofs.Cases.{no_eq}
 use Rattle.wire.specs.Texts.{parameter_text, written_of, leaves_of}
-use Rattle.wire.specs.Writable.{bad_of}
+use Rattle.wire.proofs.Fields.{told_ordinal, told_none}
 use Rattle.wire.proofs.Pieces.{begun}
 use Rattle.wire.proofs.Places.{parameter_most}
 use Rattle.wire.proofs.writer.write_parameter.Goals as goal
@@ -13,11 +14,18 @@ slice_bounds-give-end c =
     let m = parameter_most c.args.c in
     sym (length-take-le _ _ (omega (arith, c.put_parameter.ensures.place, c.new-page.ensures.at)))
 
-pub returns : goal.returns
-returns c =
+pub returns-in-Some : goal.returns-in-Some
+unfolding written_of leaves_of
+returns-in-Some c =
+    let t = told_ordinal _ _ c.in-Some.ensures in
+    (no_eq _ _ _ _ _ t.1 (rw t.0), no_eq _ _ _ _ _ t.1 refl)
+
+pub returns-in-None : goal.returns-in-None
+returns-in-None c =
     let m = parameter_most c.args.c in
     let l = ap length c.new-page.ensures.bytes in
+    let n = told_none _ c.in-None.ensures in
     let e = begun (parameter_text c.args.c) _ (omega arith) (omega arith) c.new-page.ensures.at c.put_parameter.ensures (search rules) in (
-      c.give.ensures.0 ∙ ap (λ (t : List ℕ). written_of (bad_of c.args.c) t c.args.out.now) e,
-      c.give.ensures.1 ∙ ap (λ (t : List ℕ). leaves_of (bad_of c.args.c) t c.args.out.now) e,
+      c.give.ensures.0 ∙ ap (λ (t : List ℕ). written_of 0 t c.args.out.now) e ∙ ap (λ (k : ℕ). written_of k (parameter_text c.args.c) c.args.out.now) (sym n),
+      c.give.ensures.1 ∙ ap (λ (t : List ℕ). leaves_of 0 t c.args.out.now) e ∙ ap (λ (k : ℕ). leaves_of k (parameter_text c.args.c) c.args.out.now) (sym n),
     )
