@@ -1,12 +1,19 @@
--- The words of a record are no longer than 226 bytes, so that they fit in an array of as many.
+-- How long texts can be: the words of a record are no longer than 226 bytes, so that they fit in an array of as many; a record's text in a
+-- listing is no longer than `longest_record`, and its line in a dump than `longest_place`.
 -- Assumes nothing.
-use Rattle.std.proofs.Common.{ℕ, ◌+◌, ◌%◌, ◌≤◌, Bool, List, [], ◌++◌, length, arith, length-append, leb-true}
+use Rattle.std.proofs.Common.{ℕ, ◌+◌, ◌%◌, ◌<◌, ◌≤◌, Bool, true, false, List, [], ◌++◌, length, None, Some, Ok, Err, arith, length-append, leb-true}
+use Rattle.meters.specs.declared.Meters.{Meters}
 use Rattle.text.specs.Choose.{if_lt, if_eq, if_so}
+use Rattle.text.specs.Page.{Wrote}
 use Rattle.text.specs.Text.{ascii, last_digits, decimal, value_text, numbered}
+use Rattle.text.specs.declared.page.Page.{Page}
 use Rattle.text.proofs.Cases.{both_so, both_lt, both_eq}
 use Rattle.text.proofs.Ends.{digits_length}
 use Rattle.text.proofs.Numbers.{by_most, count_most}
+use Rattle.rows.specs.Numbers.{applied}
 use Rattle.rows.specs.Valid.{in_range}
+use Rattle.rows.specs.declared.Act.{Act}
+use Rattle.rows.specs.declared.Call.{Call}
 use Rattle.rows.specs.declared.Component.{Component}
 use Rattle.rows.specs.declared.Component.TheVariants.{Absent, Invoke, Result, Error, Reject, Unknown}
 use Rattle.rows.specs.declared.Event.{Event}
@@ -14,11 +21,23 @@ use Rattle.rows.specs.declared.Event.TheVariants.{Opening, Ask, Received, FromAc
 use Rattle.rows.specs.declared.Message.{Message}
 use Rattle.rows.specs.declared.Nature.{Nature}
 use Rattle.rows.specs.declared.Nature.TheVariants.{National, International}
+use Rattle.rows.specs.declared.Note.{Note}
 use Rattle.rows.specs.declared.Number.{Number}
+use Rattle.rows.specs.declared.Outcome.{Outcome}
+use Rattle.rows.specs.declared.Phase.{Phase}
+use Rattle.rows.specs.declared.RevState.{RevState}
+use Rattle.rows.specs.declared.Stand.{Stand}
+use Rattle.files.specs.Bodies.{Reading}
 use Rattle.files.specs.Bytes.{part}
+use Rattle.files.specs.declared.Unreadable.{Unreadable}
+use Rattle.files.specs.declared.Unreadable.TheVariants.{CutShort, BadLength, UnknownKind}
 use Rattle.files.specs.declared.Where.{Where}
 use Rattle.files.specs.declared.Where.TheVariants.{Plain, Slot}
-use Rattle.files.specs.Messages.{operation_text, text_if, sign_text, number_text, with_digits, parts_text}
+use Rattle.files.specs.Dump.{stop_text, found_text, place_text, longest_place}
+use Rattle.files.specs.Lines.{phase_text, rev_text, stand_text, meters_text, slot_text, line_text, numbered_line, action_text, actions_text}
+use Rattle.files.specs.Lines.{record_text, longest_record}
+use Rattle.files.specs.Messages.{operation_text, with_operation, component_text, text_if, sign_text, number_text, with_digits, parts_text}
+use Rattle.files.specs.Messages.{values_text, carried_text, sent_text, released_text}
 use Rattle.files.specs.Words.{code_word, digits_word, counted_word, number_word, role_word, comma_text, flag_text, flags_text}
 use Rattle.files.specs.Words.{flags_word, opening_words, asked_word, ask_words, name_word, operation_word, with_operation_word, unless_zero}
 use Rattle.files.specs.Words.{reject_words, unknown_words, component_words, with_number, values_words, message_words, told_word, access_words}
@@ -54,15 +73,16 @@ sign_most : (n : Nature) → length (sign_text n) ≤ 1
 sign_most National = omega arith
 sign_most International = omega arith
 
-with_digits_most : (word : List ℕ) (n : Number) → length word ≤ 1 → n.count ≤ 15 → length (with_digits word n) ≤ 33
+with_digits_most : (k : ℕ) (word : List ℕ) (n : Number) → length word + n.count + 1 ≤ k → length (with_digits word n) ≤ k
 unfolding with_digits number_text
-with_digits_most word n g h =
-    let d : length (last_digits n.count n.value) ≤ 15 = omega (arith, digits_length n.count n.value, h) in
-    join {j = 1} {k = 16} 33 word _ g (join {j = 1} {k = 15} 16 (sign_text n.nature) (last_digits n.count n.value) (sign_most n.nature) d (omega arith)) (omega arith)
+with_digits_most k word n h =
+    let d : length (number_text n) ≤ n.count + 1 =
+    omega (arith, sign_most n.nature, digits_length n.count n.value, length-append (sign_text n.nature) (last_digits n.count n.value)) in
+    omega (arith, length-append word (number_text n))
 
 digits_most : (n : Number) → n.count ≤ 15 → length (digits_word n) ≤ 33
 unfolding digits_word
-digits_most n h = eq_most 33 (ascii " -") (with_digits (ascii " ") n) (omega arith) (with_digits_most (ascii " ") n (omega arith) h) n.count 0
+digits_most n h = eq_most 33 (ascii " -") (with_digits (ascii " ") n) (omega arith) (with_digits_most 33 (ascii " ") n (omega (arith, h))) n.count 0
 
 value_most : (n : ℕ) → length (value_text n) ≤ 20
 unfolding value_text
@@ -277,3 +297,166 @@ where_most (Slot i) = numbered_most 16 (ascii " SLOT ") i (omega arith)
 pub words_most : (w : Where) (e : Event) → length (entry_words w e) ≤ 226
 unfolding entry_words
 words_most w e = join {j = 16} {k = 210} 226 (where_words w) (event_words e) (where_most w) (event_most e) (omega arith)
+
+-- ---- a record's line in a dump
+
+stop_most : (e : Unreadable) → length (stop_text e) ≤ 13
+stop_most CutShort = omega arith
+stop_most BadLength = omega arith
+stop_most UnknownKind = omega arith
+
+found_most : (found : Reading) → length (found_text found) ≤ 226
+found_most None = omega arith
+found_most (Some (Err e)) = omega (arith, stop_most e)
+found_most (Some (Ok r)) = words_most r.acts r.event
+
+pub place_most : (ordinal : ℕ) (found : Reading) (at : ℕ) → length (place_text ordinal found at) ≤ longest_place
+unfolding place_text
+place_most ordinal found at =
+    join {j = 247} {k = 1} longest_place _ (ascii "\n")
+    (join {j = 21} {k = 226} 247 _ (found_text found)
+    (join {j = 10} {k = 11} 21 (decimal ordinal) (numbered (ascii " ") at)
+    (count_most ordinal)
+    (numbered_most 11 (ascii " ") at (omega arith)) (omega arith))
+    (found_most found) (omega arith))
+    (omega arith) (omega arith)
+
+-- ---- a record's text in a listing: its line
+
+phase_most : (phase : Phase) → length (phase_text phase) ≤ 9
+phase_most Phase.Unopened = omega arith
+phase_most Phase.Null = omega arith
+phase_most Phase.Setup = omega arith
+phase_most Phase.Answered = omega arith
+phase_most Phase.Cleared = omega arith
+
+rev_most : (rev : RevState) → length (rev_text rev) ≤ 17
+rev_most RevState.Idle = omega arith
+rev_most RevState.WaitSetup = omega arith
+rev_most RevState.WaitActive = omega arith
+rev_most RevState.WaitAnswer = omega arith
+rev_most RevState.Active = omega arith
+rev_most RevState.WaitSetupConf = omega arith
+rev_most RevState.WaitActiveConf = omega arith
+rev_most RevState.WaitCalled = omega arith
+
+stand_most : (stand : Stand) → length (stand_text stand) ≤ 26
+unfolding stand_text
+stand_most stand = join {j = 9} {k = 17} 26 (phase_text stand.phase) (rev_text stand.rev) (phase_most stand.phase) (rev_most stand.rev) (omega arith)
+
+meters_most : (m : Meters) → length (meters_text m) ≤ 33
+unfolding meters_text
+meters_most m =
+    join {j = 22} {k = 11} 33 _ (numbered (ascii " ") m.far)
+    (join {j = 11} {k = 11} 22 (numbered (ascii " ") m.caller) (numbered (ascii " ") m.called)
+    (numbered_most 11 (ascii " ") m.caller (omega arith))
+    (numbered_most 11 (ascii " ") m.called (omega arith)) (omega arith))
+    (numbered_most 11 (ascii " ") m.far (omega arith)) (omega arith)
+
+slot_most : (shown : Bool) (slot : ℕ) → length (slot_text shown slot) ≤ 11
+slot_most true slot = numbered_most 11 (ascii " ") slot (omega arith)
+slot_most false slot = omega arith
+
+line_most : (ordinal : ℕ) (shown : Bool) (slot number : ℕ) (call : Call) → length (line_text ordinal shown slot number call) ≤ 92
+unfolding line_text
+line_most ordinal shown slot number call =
+    join {j = 91} {k = 1} 92 _ (ascii "\n")
+    (join {j = 58} {k = 33} 91 _ (meters_text call.meters)
+    (join {j = 32} {k = 26} 58 _ (stand_text call.stand)
+    (join {j = 21} {k = 11} 32 _ (numbered (ascii " ") number)
+    (join {j = 10} {k = 11} 21 (decimal ordinal) (slot_text shown slot)
+    (count_most ordinal)
+    (slot_most shown slot) (omega arith))
+    (numbered_most 11 (ascii " ") number (omega arith)) (omega arith))
+    (stand_most call.stand) (omega arith))
+    (meters_most call.meters) (omega arith))
+    (omega arith) (omega arith)
+
+-- ---- its actions
+
+with_operation_most : (word : List ℕ) (operation : ℕ) → length word ≤ 7 → length (with_operation word operation) ≤ 14
+unfolding with_operation
+with_operation_most word operation h = join {j = 7} {k = 7} 14 word (operation_text operation) h (operation_text_most operation) (omega arith)
+
+component_text_most : (component : Component) → length (component_text component) ≤ 17
+component_text_most (Absent n) = omega arith
+component_text_most (Invoke operation) = omega (arith, with_operation_most (ascii " INVOKE") operation (omega arith))
+component_text_most (Result operation) = omega (arith, with_operation_most (ascii " RESULT") operation (omega arith))
+component_text_most (Error n) = numbered_most 17 (ascii " ERROR ") n (omega arith)
+component_text_most (Reject n) = omega arith
+component_text_most (Unknown code n) = omega arith
+
+numbered_line_most : (k : ℕ) (word : List ℕ) (n : ℕ) → length word + 11 ≤ k → length (numbered_line word n) ≤ k
+unfolding numbered_line
+numbered_line_most k word n h = omega (arith, numbered_most (length word + 10) word n (omega arith), length-append (numbered word n) (ascii "\n"))
+
+-- the counts of its numbers are bytes
+module _ (m : Note) (calling : m.calling.count < 256) (called : m.called.count < 256) where
+  values_text_most : length (values_text m) ≤ 549
+  unfolding values_text
+  values_text_most =
+      join {j = 529} {k = 20} 549 _ _
+      (join {j = 265} {k = 264} 529 _ _
+      (if_most 265 (part m.parts 16) _ (with_digits_most 265 (ascii " CALLING ") m.calling (omega arith)))
+      (if_most 264 (part m.parts 32) _ (with_digits_most 264 (ascii " CALLED ") m.called (omega arith))) (omega arith))
+      (if_most 20 (part m.parts 64) _ (numbered_most 20 (ascii " DURATION ") m.duration (omega arith))) (omega arith)
+
+  carried_most : length (carried_text m) ≤ 605
+  unfolding carried_text
+  carried_most =
+      join {j = 604} {k = 1} 605 _ (ascii "\n")
+      (join {j = 55} {k = 549} 604 _ (values_text m)
+      (join {j = 17} {k = 38} 55 (component_text m.component) (parts_text m.parts)
+      (component_text_most m.component)
+      (parts_most m.parts) (omega arith))
+      values_text_most (omega arith))
+      (omega arith) (omega arith)
+
+  sent_most : (name : List ℕ) → length name ≤ 16 → length (sent_text name m) ≤ 621
+  unfolding sent_text
+  sent_most name h = join {j = 16} {k = 605} 621 name (carried_text m) h carried_most (omega arith)
+
+  released_most : length (released_text m) ≤ 621
+  unfolding released_text
+  released_most =
+      join {j = 16} {k = 605} 621 (numbered (ascii "> REL ") m.cause) (carried_text m) (numbered_most 16 (ascii "> REL ") m.cause (omega arith)) carried_most (omega arith)
+
+  action_most : (a : Act) → length (action_text m a) ≤ 621
+  action_most Act.Nothing = omega arith
+  action_most Act.NotifyAccepted = omega arith
+  action_most Act.AccessSetup = omega arith
+  action_most Act.AccessAsk = omega arith
+  action_most Act.AccessError = numbered_line_most 621 (ascii "> ACCESS ERROR ") m.error (omega arith)
+  action_most Act.AccessRel = numbered_line_most 621 (ascii "> ACCESS REL ") m.cause (omega arith)
+  action_most Act.ChargeCalling = omega arith
+  action_most Act.ChargeCalled = omega arith
+  action_most Act.Stop = omega arith
+  action_most Act.SendIam = sent_most (ascii "> IAM") (omega arith)
+  action_most Act.SendAnm = sent_most (ascii "> ANM") (omega arith)
+  action_most Act.SendRel = released_most
+  action_most Act.SendFac = sent_most (ascii "> FAC") (omega arith)
+
+actions_most : (o : Outcome) → o.note.calling.count < 256 → o.note.called.count < 256 → length (actions_text o) ≤ 2484
+unfolding actions_text
+actions_most o calling called =
+    let a = action_most o.note calling called in
+    join {j = 1863} {k = 621} 2484 _ (action_text o.note o.fourth)
+    (join {j = 1242} {k = 621} 1863 _ (action_text o.note o.third)
+    (join {j = 621} {k = 621} 1242 (action_text o.note o.first) (action_text o.note o.second)
+    (a o.first)
+    (a o.second) (omega arith))
+    (a o.third) (omega arith))
+    (a o.fourth) (omega arith)
+
+pub record_most : (ordinal : ℕ) (shown : Bool) (slot : ℕ) (o : Outcome) → o.note.calling.count < 256 → o.note.called.count < 256
+    → length (record_text ordinal shown slot o) ≤ longest_record
+unfolding record_text
+record_most ordinal shown slot o calling called =
+    join {j = 92} {k = 2484} longest_record (line_text ordinal shown slot o.number o.call) _
+    (line_most ordinal shown slot o.number o.call)
+    (eq_most 2484 (actions_text o) [] (actions_most o calling called) (omega arith) o.number applied) (omega arith)
+
+-- ---- what puts a text on a page goes no further than the text is long
+
+pub wrote_most : {a b : Page} {t : List ℕ} (n : ℕ) → Wrote t a b → length t ≤ n → b.at ≤ a.at + n
+wrote_most n p h = omega (arith, p.place)

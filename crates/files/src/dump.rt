@@ -1,7 +1,7 @@
 // A dump of a file, for a volunteer who wants to see what the board wrote: each record's ordinal, its place, and what it says.
-ghost use Rattle.std.specs.Prelude.{◌≡◌, ◌≤◌, length, Some};
+ghost use Rattle.std.specs.Prelude.{◌≡◌, ◌+◌, ◌≤◌, length, Some};
 ghost use Rattle.text.specs.Page.{Wrote};
-ghost use Rattle.files.specs.Dump.{stop_text, found_text, place_text, dump_of};
+ghost use Rattle.files.specs.Dump.{stop_text, found_text, place_text, longest_place, dump_of};
 ghost use Rattle.files.specs.Fit.{longest, answers, leaves};
 
 use crate::bodies::read_by;
@@ -34,7 +34,8 @@ fn put_found(page: &mut Page<'_>, found: Result<Record, Unreadable>)
 
 // A record's line.
 fn put_place(page: &mut Page<'_>, ordinal: u32, found: Result<Record, Unreadable>, at: u32)
-    ensures { Wrote (place_text ordinal (Some found) at) page.old page.new }
+    ensures put { Wrote (place_text ordinal (Some found) at) page.old page.new }
+    ensures upper_bound { page.new.at ≤ page.old.at + longest_place }
 {
     page.decimal(ordinal);
     page.numbered(b" ", at);

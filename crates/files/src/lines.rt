@@ -1,8 +1,9 @@
 // The lines of a listing: a record's, an action's, the last.
 // Kept: here and in messages.rt, words.rt and dump.rt a text is put by a function: a Display promises its text on Ok alone, `Wrote` always.
+ghost use Rattle.std.specs.Prelude.{◌+◌, ◌≤◌};
 ghost use Rattle.text.specs.Page.{Wrote};
 ghost use Rattle.files.specs.Lines.{phase_text, rev_text, stand_text, meters_text, slot_text, line_text, numbered_line, action_text, actions_text};
-ghost use Rattle.files.specs.Lines.{record_text};
+ghost use Rattle.files.specs.Lines.{record_text, longest_record};
 
 use crate::messages::{put_released, put_sent};
 use meters::Meters;
@@ -115,7 +116,8 @@ fn put_actions(page: &mut Page<'_>, o: Outcome)
 
 // A record's line and, where a row was applied, its actions.
 pub(crate) fn put_record(page: &mut Page<'_>, ordinal: u32, slots: bool, slot: u32, o: Outcome)
-    ensures { Wrote (record_text ordinal slots slot o) page.old page.new }
+    ensures put { Wrote (record_text ordinal slots slot o) page.old page.new }
+    ensures upper_bound { page.new.at ≤ page.old.at + longest_record }
 {
     put_line(page, ordinal, slots, slot, o.number, o.call);
     if o.number == APPLIED {

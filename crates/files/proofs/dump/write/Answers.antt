@@ -11,7 +11,7 @@ loop-at-init c = dumped_begin _ _ _ _ c.of-at-items.ensures c.into_iter-at-itera
 pub loop-at-preserved : goal.loop-at-preserved
 loop-at-preserved c =
     dumped_turn _ _ _ _ _ c.loop-at.at-iterator c.next.new.self c.in-Some.at c.in-Some.f _
-    c.loop-at.invariant c.in-Some.ensures.steps c.read_by.ensures c.put_place.ensures
+    c.loop-at.invariant c.in-Some.ensures.steps c.read_by.ensures c.put_place.ensures.put
 
 pub returns : goal.returns
 returns c =

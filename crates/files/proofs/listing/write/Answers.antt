@@ -17,7 +17,7 @@ loop-at-preserved c =
     ] in
     listed_turn _ c.loop-at.at-iterator c.next.new.self c.in-Some.at c.in-Some.f c.loop-at.invariant.0 c.in-Some.ensures.steps
     _ _ _ _ _ _ _ _ _ _ _ _ _ _ _ held_now (c.from.ensures ∙ c.slot-slot.ensures ∙ c.acts_framed-acts.ensures.0) (c.index_of-index.ensures.0 ∙ ap index_of (sym c.from.ensures)) refl c.answer-o.ensures
-    (c.is_slot-named.ensures ∙ c.acts_framed-acts.ensures.1) refl c.put_record.ensures
+    (c.is_slot-named.ensures ∙ c.acts_framed-acts.ensures.1) refl c.put_record.ensures.put
 
 pub returns-clause-put : goal.returns-clause-put
 returns-clause-put c =
