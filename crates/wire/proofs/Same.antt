@@ -1,5 +1,5 @@
 -- Any two results that a contract of `wire` allows are the same: a law for each form that is not already in the Same.antt of `text`
--- (`same`: the readers, by their definitions; `put_same`: the functions that put a piece).
+-- (`same`: the readers, by their definitions; `wrote_same` there: the functions that put a piece on a page).
 -- Assumes nothing.
 use mathlib.Core.List.{List}
 use mathlib.Core.Path.{◌≡◌}
