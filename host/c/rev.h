@@ -227,7 +227,7 @@ bool rev_same_number(bool international, uint8_t count, uint64_t value, bool oth
  *
  * This holds for any bytes and any lengths, 0 among them. What they ask is what rev_listing asks: no pointer is null, even at length 0; the
  * bytes are there; the two do not overlap. And C passes a message or a cause that is too large for its type without its high bits. They too
- * keep nothing between calls, allocate nothing and call nothing. Of stack they take 10 KiB at most (measured).
+ * keep nothing between calls, allocate nothing and call nothing. Of stack they take 9 KiB at most (measured).
  *
  * The promise is proved of crates/peers/src, which rests on crates/wire/src and crates/files/src. That these declarations fit it is tested
  * (test.c, and wires.c against an independent model) and not proved. That REV_ENTRIES is enough is counted as above, and tested.

@@ -1,5 +1,5 @@
 // The entries of a parameter's components: an identifier, and the record of the event.
-ghost use Rattle.std.specs.Prelude.{◌≡◌, ◌∷◌, [], ◌+◌, ◌*◌, ◌≤◌, ◌<◌, length};
+ghost use Rattle.std.specs.Prelude.{ℕ, ◌≡◌, ◌∷◌, [], ◌+◌, ◌*◌, ◌≤◌, ◌<◌, length};
 ghost use Rattle.text.specs.Text.{Put};
 ghost use Rattle.files.specs.Bodies.{record_of};
 ghost use Rattle.rows.specs.declared.Event.TheVariants.{Received};
@@ -11,12 +11,12 @@ use crate::Refusal;
 use crate::messages::{heard, none};
 use wire::Component;
 
-// How long the entry of a component is. (Here and in put_entry the message is made apart from `keep`, whose stack it would be on for each
-// component of a parameter.)
-fn entry_size(message: u8, cause: u8, c: &Component) -> usize
-    ensures { (result ≡ 2 + length (record_of (Received (heard_of message cause c.now)))) × (result ≤ 33) }
+// How long the entry of a component is, whatever message carries it: its parts alone say so. (The message is made in put_entry, once the
+// entries that follow stand in the buffer: what `keep` makes before it calls itself is on the stack for each component of a parameter.)
+fn entry_size(c: &Component) -> usize
+    ensures { ((message cause : ℕ) → result ≡ 2 + length (record_of (Received (heard_of message cause c.now)))) × (result ≤ 33) }
 {
-    2 + files::message_size(heard(message, cause, *c).parts)
+    2 + files::message_size(c.parts)
 }
 
 fn put_entry(out: &mut [u8], at: usize, id: u16, message: u8, cause: u8, c: &Component) -> usize
@@ -50,7 +50,7 @@ pub(crate) fn write_none(message: u8, cause: u8, out: &mut [u8]) -> Result<usize
     ensures { Keeps message cause (holds (no_component ∷ [])) out.old 0 result out.new × KeptWithin result }
 {
     let c = none();
-    let n = ended(message, cause, out.len(), entry_size(message, cause, &c))?;
+    let n = ended(message, cause, out.len(), entry_size(&c))?;
     put_entry(out, 0, c.id, message, cause, &c);
     Ok(n)
 }
@@ -72,20 +72,20 @@ pub(crate) fn keep(
         return ended(message, cause, out.len(), to);
     }
     let (c, next) = wire::read_component(s, at)?;
-    let n = entry_size(message, cause, &c);
+    let n = entry_size(&c);
     let end = keep(s, next, message, cause, out, to + n)?;
     put_entry(out, to, c.id, message, cause, &c);
     Ok(end)
 }
 
 // The same of a whole parameter, from its first component on, which mostly is the only one.
-// Kept: this step once more, since a reader that `keep` alone called would stand on the stack for each component (272 bytes each, 256 so).
+// Kept: this step once more, since a reader that `keep` alone called would stand on the stack for each component (272 bytes each, 240 so).
 pub(crate) fn keep_all(s: &[u8], message: u8, cause: u8, out: &mut [u8]) -> Result<usize, Refusal>
     requires { (3 < length s.now) × (length s.now ≤ 257) }
     ensures { Keeps message cause (walk_of s.now 3) out.old 0 result out.new × KeptWithin result }
 {
     let (c, next) = wire::read_component(s, 3)?;
-    let n = entry_size(message, cause, &c);
+    let n = entry_size(&c);
     let end = keep(s, next, message, cause, out, n)?;
     put_entry(out, 0, c.id, message, cause, &c);
     Ok(end)

@@ -16,7 +16,7 @@ keep-requires t c =
 
 pub put_entry-requires : goal.put_entry-requires
 put_entry-requires t c =
-    before_room _ _ _ _ _ _ _ _ _ _ refl (ap (λ (n : ℕ). c.args.to + n) c.entry_size-n.ensures.0)
+    before_room _ _ _ _ _ _ _ _ _ _ refl (ap (λ (n : ℕ). c.args.to + n) (c.entry_size-n.ensures.0 _ _))
     c.keep.ensures.0 _ c.in_ok-end.was
 
 pub returns-in_err-c : goal.returns-in_err-c
@@ -29,7 +29,7 @@ returns-in_err-end t c =
     let p = err_from_is_err_and c.from_residual-in_err-end.result c.from_residual-in_err-end.ensures.1 in
     rw (p.1, p.2) (
       keep_before _ _ _ _ _ _ _ (omega arith) c.read_component.ensures _ _ c.in_ok-c.was _ _
-          (before_refused _ _ _ _ _ _ _ _ _ _ refl (ap (λ (n : ℕ). c.args.to + n) c.entry_size-n.ensures.0)
+          (before_refused _ _ _ _ _ _ _ _ _ _ refl (ap (λ (n : ℕ). c.args.to + n) (c.entry_size-n.ensures.0 _ _))
           c.keep.ensures.0 _ c.in_err-end.was),
       within_as _ _ c.in_err-end.was c.keep.ensures.1,
     )
@@ -37,7 +37,7 @@ returns-in_err-end t c =
 pub returns : goal.returns
 returns t c = (
   keep_before _ _ _ _ _ _ _ (omega arith) c.read_component.ensures _ _ c.in_ok-c.was _ _
-      (before_all _ _ _ _ _ _ _ _ _ _ refl (ap (λ (n : ℕ). c.args.to + n) c.entry_size-n.ensures.0)
+      (before_all _ _ _ _ _ _ _ _ _ _ refl (ap (λ (n : ℕ). c.args.to + n) (c.entry_size-n.ensures.0 _ _))
       c.keep.ensures.0 _ _ _ c.in_ok-end.was c.put_entry.ensures),
   within_as _ _ c.in_ok-end.was c.keep.ensures.1,
 )

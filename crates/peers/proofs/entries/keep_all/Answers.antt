@@ -13,7 +13,7 @@ keep-requires c =
 
 pub put_entry-requires : goal.put_entry-requires
 put_entry-requires c =
-    before_room _ _ _ _ _ _ _ _ _ _ refl (c.entry_size-n.ensures.0 ∙ sym (zero-add _)) c.keep.ensures.0 _ c.in_ok-end.was
+    before_room _ _ _ _ _ _ _ _ _ _ refl (c.entry_size-n.ensures.0 _ _ ∙ sym (zero-add _)) c.keep.ensures.0 _ c.in_ok-end.was
 
 pub returns-in_err-c : goal.returns-in_err-c
 returns-in_err-c c =
@@ -25,13 +25,13 @@ returns-in_err-end c =
     let p = err_from_is_err_and c.from_residual-in_err-end.result c.from_residual-in_err-end.ensures.1 in
     rw (p.1, p.2) (
       keep_before _ _ _ _ _ _ _ c.requires.0 c.read_component.ensures _ _ c.in_ok-c.was _ _
-          (before_refused _ _ _ _ _ _ _ _ _ _ refl (c.entry_size-n.ensures.0 ∙ sym (zero-add _)) c.keep.ensures.0 _ c.in_err-end.was),
+          (before_refused _ _ _ _ _ _ _ _ _ _ refl (c.entry_size-n.ensures.0 _ _ ∙ sym (zero-add _)) c.keep.ensures.0 _ c.in_err-end.was),
       within_as _ _ c.in_err-end.was c.keep.ensures.1,
     )
 
 pub returns : goal.returns
 returns c = (
   keep_before _ _ _ _ _ _ _ c.requires.0 c.read_component.ensures _ _ c.in_ok-c.was _ _
-      (before_all _ _ _ _ _ _ _ _ _ _ refl (c.entry_size-n.ensures.0 ∙ sym (zero-add _)) c.keep.ensures.0 _ _ _ c.in_ok-end.was c.put_entry.ensures),
+      (before_all _ _ _ _ _ _ _ _ _ _ refl (c.entry_size-n.ensures.0 _ _ ∙ sym (zero-add _)) c.keep.ensures.0 _ _ _ c.in_ok-end.was c.put_entry.ensures),
   within_as _ _ c.in_ok-end.was c.keep.ensures.1,
 )
