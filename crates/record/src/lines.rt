@@ -39,14 +39,11 @@ fn write(w: Where, e: Event, out: &mut [u8]) -> Result<usize, Unwritten>
     }
 }
 
-// The line with this count, recorded at `to`: the place after it.
-fn take(line: &[u8], count: usize, out: &mut [u8], to: usize) -> Result<usize, Refused>
+// A line that is not skipped, recorded at `to`: the place after it.
+fn take(line: &[u8], out: &mut [u8], to: usize) -> Result<usize, Refused>
     requires { to ≤ length out.old }
     ensures { IfOk result (λ n. n ≤ length out.old) }
 {
-    if is_skipped(line, count) {
-        return Ok(to);
-    }
     // as the lines of some other systems do
     if line.ends_with(b"\r") {
         return Err(Refused::EndsInReturn);
@@ -63,7 +60,9 @@ pub(crate) fn record(text: &[u8], out: &mut [u8]) -> Result<usize, Stop>
     let mut to = 0;
     for (i, bytes) in text.split(|b| *b == b'\n').enumerate() {
         let line = i + 1;
-        to = take(bytes, line, out, to).map_err(|why| Stop { line, why })?;
+        if !is_skipped(bytes, line) {
+            to = take(bytes, out, to).map_err(|why| Stop { line, why })?;
+        }
     }
     Ok(to)
 }
