@@ -129,10 +129,7 @@ fn says(line: &[u8], forms: u8, c: Component) -> bool
     let mut page = Page::new(&mut words);
     put_line_in(&mut page, forms, c);
     let n = page.at;
-    match words.get(..n) {
-        Some(said) => line == said,
-        None => false,
-    }
+    line == &words[..n]
 }
 
 // The component that a line says, and the forms of its numbers.
