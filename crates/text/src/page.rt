@@ -1,6 +1,6 @@
 // A page: a lent buffer, and the place in it that is written next. A byte past the buffer's end is counted and not stored; the count stops
 // at the largest number, which no buffer reaches.
-ghost use Rattle.std.specs.Prelude.{◌≡◌, ◌∷◌, [], ◌<◌, ◌≤◌, ◌^◌, length};
+ghost use Rattle.std.specs.Prelude.{◌≡◌, ◌∷◌, [], ◌<◌, ◌^◌};
 ghost use Rattle.text.specs.Text.{last_digits, decimal, value_text, numbered};
 ghost use Rattle.text.specs.Page.{Wrote};
 
@@ -12,8 +12,7 @@ pub struct Page<'a> {
     pub at: usize,
 }
 
-// `inline`, where it stands: a word is then stored by its size, which the caller knows, and no memcpy is called for it. A program that
-// lists expiries takes 18 % fewer instructions so.
+// `inline`, where it stands: these are put in place, and not called. A program that lists expiries takes 14 to 18 % fewer instructions so.
 impl<'a> Page<'a> {
     pub fn new(out: &'a mut [u8]) -> Page<'a>
         ensures same { result.out.ghost_name ≡ out.entry.ghost_name }

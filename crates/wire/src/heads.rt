@@ -39,7 +39,7 @@ fn length_place(s: &[u8], at: usize, end: usize) -> usize
 }
 
 // Where the contents begin and how many bytes they have, by the first byte of the length, which stands before `after`. (No Element yet:
-// one that is handed on in a Result is copied with the bytes beside its tag, which takes a third more instructions for a head.)
+// one that is handed on in a Result is copied with the bytes beside its tag.)
 fn measured(s: &[u8], first: u8, after: usize, end: usize, short: u8) -> Result<(usize, usize), u8>
     requires { after ≤ end }
     ensures of { (tag : ℕ) → spanned_of tag end short result ≡ length_of s.now tag first after end short }

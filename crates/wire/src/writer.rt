@@ -268,7 +268,7 @@ impl Unwritten {
 }
 
 // What is given of the text of a component that can be written: its bytes, where there is room for them.
-// Kept: like files' `judge`, and Unwritten like files' own: neither of the two crates rests on the other, and their clauses name their own.
+// Kept: Unwritten, like files' own: neither of the two crates rests on the other, and their clauses name their own.
 fn give(text: &[u8], out: &mut [u8]) -> Result<usize, Unwritten>
     ensures { (result ≡ written_of 0 text.now out.old) × (out.new ≡ leaves_of 0 text.now out.old) }
 {
@@ -297,7 +297,7 @@ pub fn write_component(c: Component, out: &mut [u8]) -> Result<usize, Unwritten>
 }
 
 // The same for a whole parameter of this one component.
-// Kept: one function over `impl Fn(&mut [u8], usize, Component) -> usize` would be no shorter than these two, and its clauses longer.
+// Kept: one function over `impl Fn(&mut Page<'_>, Component)` would be no shorter than these two, and its clauses longer.
 pub fn write_parameter(c: Component, out: &mut [u8]) -> Result<usize, Unwritten>
     ensures { (result ≡ written_of (bad_of c) (parameter_text c) out.old)
         × (out.new ≡ leaves_of (bad_of c) (parameter_text c) out.old) }

@@ -1,4 +1,4 @@
-use Rattle.std.proofs.Common.{ap, ℕ, List}
+use Rattle.std.proofs.Common.{ap, ℕ}
 use Rattle.files.specs.Messages.{number_text}
 use Rattle.text.specs.Text.{last_digits}
 use Rattle.text.proofs.Writes.{wrote_after, wrote_as}

@@ -1,4 +1,4 @@
-use Rattle.std.proofs.Common.{ap, ℕ, List}
+use Rattle.std.proofs.Common.{ap, ℕ}
 use Rattle.text.specs.Choose.{if_eq}
 use Rattle.text.specs.Text.{last_digits}
 use Rattle.wire.specs.Texts.{text_if}
